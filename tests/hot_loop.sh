@@ -5,11 +5,11 @@
 # worker takes up to 1.4 times as long. No answer depends on it: a bad place is told and fails nothing.
 . "$(dirname "$0")/lib.sh"
 
-# The loops of one worker: over whole tokens, over blocks where tokens stand close, and over characters beyond ASCII.
-loops='jx_reduce::stack::whole_tokens::rounds jx_reduce::stack::blocks::blocks jx_lex::scanner::ahead::Ahead::after'
+# The loops of one worker that stand once: over blocks where tokens stand close, and over characters beyond ASCII.
+loops='jx_reduce::stack::blocks::blocks::<.*> jx_lex::scanner::ahead::Ahead::after'
 
-# The loop over single tokens: one for each kind of reading.
-scans='jx_lex::scanner::scan::<.*>'
+# The loops over whole tokens and over single ones: one for each kind of reading.
+kinds='jx_reduce::stack::whole_tokens::rounds::<.*> jx_lex::scanner::scan::<.*>'
 
 # The addresses of a function, hexadecimal, a line each.
 places() { nm "$program" | sed -n "s/^\([0-9a-f]*\) [tT] $1\$/\1/p"; }
@@ -19,12 +19,14 @@ each_loop_stands_once() {
     for loop in $loops; do
         same "how often $loop stands in the program" 1 "$(places "$loop" | wc -l)"
     done
-    same 'the loop over single tokens stands in the program' yes "$([ "$(places "$scans" | wc -l)" -gt 0 ] && echo yes)"
+    for loop in $kinds; do
+        same "$loop stands in the program" yes "$([ "$(places "$loop" | wc -l)" -gt 0 ] && echo yes)"
+    done
 }
 
 their_places_are_told() {
     local loop at place
-    for loop in $loops "$scans"; do
+    for loop in $loops $kinds; do
         for at in $(places "$loop"); do
             place=$((16#$at % 32))
             if [ "$place" != 0 ]; then

@@ -46,3 +46,12 @@ entered_none d at e h s over =
 pub has_read-then : (old new : Known) (before ms : List Mark) → new.depth ≡ old.depth → new.reading ≡ read old.depth ms old.reading → HasRead before old → HasRead (before ++ ms) new
 has_read-then old new before ms d e h =
     e ∙ ap (read old.depth ms) h ∙ sym (fold-append (λ reading mark. step old.depth mark reading) start before ms) ∙ ap (λ (k : ℕ). read k (before ++ ms) start) (sym d)
+
+-- whole tokens
+pub passed : (code d at later : ℕ) (e f : Expect) (t : Stage) (ms : List Mark) (s u : List Holder) → code ≡ code_of f → t ≡ Going e → went f u ≡ read d ms (went e s)
+    → reading_at (stage_in code) later u ≡ read d ms (reading_at t at s)
+passed code d at later e f t ms s u is from reads =
+    ap (λ (k : ℕ). reading_at (stage_in k) later u) is
+    ∙ ap (λ (g : Stage). reading_at g later u) (stage-code f)
+    ∙ reads
+    ∙ ap (λ (g : Stage). read d ms (reading_at g at s)) (sym from)

@@ -1,12 +1,15 @@
 -- Containers in words of bits.
-use Rattle.std.proofs.Common.{◌≡◌, ℕ, zero, suc, ◌+◌, ◌-◌, ◌*◌, ◌/◌, ◌%◌, ◌^◌, ◌<◌, ◌≤◌, List, [], ◌∷◌, ◌++◌, length, take, get_or, set, refl, sym, ◌∙◌, ap, arith}
+use Rattle.std.proofs.Common.{◌≡◌, ℕ, zero, suc, ◌+◌, ◌-◌, ◌*◌, ◌/◌, ◌%◌, ◌^◌, ◌<◌, ◌≤◌, List, [], ◌∷◌, ◌++◌, length, take, drop, get_or, set, refl, sym, ◌∙◌, ap, arith, bit_and}
 use Rattle.std.specs.Prelude.{reverse}
 use Rattle.std.proofs.Math.Numerals.{add-one, sub-one}
 use Rattle.std.proofs.Math.Nat.{div-add-mod, add-mul, two-pow-succ}
-use Rattle.std.proofs.lemmas.Nat.{mod-mul-add}
+use Rattle.std.proofs.Math.Seq.{drop-append_seam}
+use Rattle.std.proofs.lemmas.Nat.{and_mask, mod-mul-add}
+use Rattle.std.proofs.lemmas.Nat.Bits.{ones_shr}
 use Rattle.std.proofs.lemmas.List.{reverse-append, length-append, length-reverse, length-take, take_more_set, take_more, take-set}
 use Rattle.jx_reduce.specs.Read.{top, without_top}
 use Rattle.jx_reduce.specs.Bits.{holder_of, in_word, in_words}
+use Rattle.jx_reduce.specs.Containers.{outer}
 use Rattle.jx_reduce.specs.declared.table.holder.Holder.{Holder}
 use Rattle.jx_reduce.specs.declared.table.holder.Holder.TheVariants.{Object}
 use Rattle.jx_c.specs.Containers.{holders}
@@ -175,3 +178,33 @@ more n b x ws l room = by_room (63 - n % 64) refl
     by_room : (j : ℕ) → 63 - n % 64 ≡ j → holders (n + 1) (b % 9223372036854775808 * 2 + x) (set ws (n / 64) (b % 9223372036854775808 * 2 + x)) ≡ holder_of x ∷ holders n b ws
     by_room zero e = more_over n b x ws _ (omega arith) l room
     by_room (suc j) e = more_within n b x ws _ (omega arith) l
+
+-- ---- the word that is being filled
+
+pub masked : (k b : ℕ) → 0 < k → k ≤ 64 → bit_and b ((2 ^ 64 - 1) / 2 ^ (64 - k)) ≡ b % 2 ^ k
+masked k b some h =
+    let e : 64 - (64 - k) ≡ k = omega arith in
+    ap (bit_and b) (ones_shr 64 (64 - k) (omega arith) ∙ ap (λ (m : ℕ). 2 ^ m - 1) e) ∙ and_mask b k
+
+pub masked-lt : (k b : ℕ) → 0 < k → k ≤ 64 → bit_and b ((2 ^ 64 - 1) / 2 ^ (64 - k)) < 2 ^ k
+masked-lt k b some h = let p = positive k in omega (arith, masked k b some h)
+
+around : (n b : ℕ) (ws : List ℕ) → 0 < n % 64 → n / 64 ≤ length ws → outer (holders n b ws) ≡ in_words (reverse (take (n / 64) ws))
+around n b ws some within =
+    let count : (length (holders n b ws) - 1) % 64 + 1 ≡ length (in_word (n % 64) b) = omega (arith, length-holders n b ws within, length-in_word (n % 64) b) in
+    ap (λ (k : ℕ). drop k (holders n b ws)) count ∙ drop-append_seam (in_word (n % 64) b) (in_words (reverse (take (n / 64) ws)))
+
+pub inner_is : (n b w : ℕ) (ws : List ℕ) → 0 < n % 64 → n / 64 ≤ length ws → w ≡ b % 2 ^ (n % 64) → holders n b ws ≡ in_word (n % 64) w ++ outer (holders n b ws)
+inner_is n b w ws some within e =
+    let k = n % 64 in
+    let z : k + 0 ≡ k = omega arith in
+    let low : in_word k w ≡ in_word k b = ap (in_word k) e ∙ ap (λ (m : ℕ). in_word k (b % 2 ^ m)) (sym z) ∙ low_bits k 0 b in
+    ap (λ (l : List Holder). l ++ in_words (reverse (take (n / 64) ws))) (sym low) ∙ ap (λ (r : List Holder). in_word k w ++ r) (sym (around n b ws some within))
+
+pub inner_put : (n b m w : ℕ) (ws : List ℕ) → 0 < n % 64 → n / 64 ≤ length ws → m < 64 → holders (n - n % 64 + m) w ws ≡ in_word m w ++ outer (holders n b ws)
+inner_put n b m w ws some within low =
+    let c : (n - n % 64 + m) % 64 ≡ m = omega arith in
+    let d : (n - n % 64 + m) / 64 ≡ n / 64 = omega arith in
+    ap (λ (k : ℕ). in_word k w ++ in_words (reverse (take ((n - n % 64 + m) / 64) ws))) c
+    ∙ ap (λ (k : ℕ). in_word m w ++ in_words (reverse (take k ws))) d
+    ∙ ap (λ (r : List Holder). in_word m w ++ r) (sym (around n b ws some within))

@@ -4,6 +4,7 @@ pub mod Scans
 pub mod Parted
 pub mod Counting
 pub mod Seeking
+pub mod Steps
 pub mod Passing
 pub mod Stood
 pub mod Groups

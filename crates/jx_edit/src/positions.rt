@@ -4,3 +4,4 @@ pub(crate) mod moves;
 pub(crate) mod passing;
 pub(crate) mod position;
 pub(crate) mod seek;
+pub(crate) mod steps;

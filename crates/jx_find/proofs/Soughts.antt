@@ -1,6 +1,6 @@
 -- What a seeker that is told the tokens of a slice has sought.
-use Rattle.std.proofs.Common.{◌≡◌, ℕ, zero, suc, ◌+◌, ◌<◌, ◌≤◌, List, [], ◌∷◌, ◌++◌, length, drop, refl, sym, ap, subst, ◌∙◌, append_assoc, append-nil, arith, true, false, Option, None, Some}
-use Rattle.std.specs.Prelude.{slice_range}
+use Rattle.std.proofs.Common.{◌≡◌, ℕ, zero, suc, ◌+◌, ◌-◌, ◌<◌, ◌≤◌, List, [], ◌∷◌, ◌++◌, length, drop, refl, sym, ap, subst, ◌∙◌, append_assoc, append-nil, arith, true, false, inl, inr, Option, None, Some}
+use Rattle.std.specs.Prelude.{◌==◌, ◌⊎◌, is_some, slice_range}
 use Rattle.jx_lex.specs.declared.alphabet.mark.Mark.{Mark}
 use Rattle.jx_lex.specs.declared.alphabet.mark.MarkKind.{MarkKind}
 use Rattle.jx_lex.specs.declared.alphabet.mark.MarkKind.TheVariants as mark
@@ -8,12 +8,13 @@ use Rattle.jx_run.specs.Telling.{moved_ends, moved_mark, moved_marks}
 use Rattle.jx_index.specs.declared.seeker.Seeker.{Seeker}
 use Rattle.jx_index.specs.declared.trie.Edge.{Edge}
 use Rattle.jx_index.specs.inside.Building.{is_token, next_end, ends_after}
-use Rattle.jx_index.specs.inside.Finding.{Finding, nothing_met}
+use Rattle.jx_index.specs.inside.Finding.{Finding, naming, nothing_met, skip_over}
 use Rattle.jx_index.specs.inside.Found.{finding}
 use Rattle.jx_index.specs.inside.Seeking.{IsReady}
-use Rattle.jx_index.specs.inside.Trie.{IsTrie, is_name_next, seek_all, sought, sought_in}
+use Rattle.jx_index.specs.inside.Trie.{IsTrie, among, is_name_next, seek_all, sought, sought_in}
 use Rattle.jx_index.proofs.CutNames.{ends_more, marks_more}
 use Rattle.jx_index.proofs.InOrders.{ends_kept, none_begun, one_begun}
+use Rattle.jx_index.proofs.Tests.{first_true, same}
 use Rattle.jx_find.specs.Held.{Comes}
 use Rattle.jx_find.specs.OnSlice.{HasSought, Holds, IsSought}
 
@@ -193,3 +194,99 @@ module _ (held : Holds) (slice : List ℕ) (edges : List Edge) (marks : List Mar
         ∙ sym (named e before future b (λ low. s.name_is m refl e (subst (λ (i : ℕ). m.at < i) b low)))))
         (t.ready s.trie s.ready) s));
   }
+
+-- ---- whole tokens, and marks that change little
+
+module _ (held : Holds) (slice : List ℕ) (edges : List Edge) (marks : List Mark) (ends : List ℕ) (own : List ℕ) (base : ℕ) (own_edges : List Edge) (k : Seeker) where
+  -- a mark, and at once the end that belongs to it
+  pub has_whole : (m : Mark) (at end to : ℕ) (next : Seeker) (begun : Option Mark) (name after told : List ℕ) → at ≡ base + m.at → end ≡ base + to → is_token m.kind ≡ true → begun ≡ None
+      → Tells own_edges m.kind at end told k next
+      → (is_name_next m.kind (finding k.state) ≡ true → (before future : List ℕ) → base ≡ length before → (at < base → name ≡ drop at before) → told ≡ slice_range ((before ++ own) ++ future) at (base + to))
+      → HasSought held slice edges marks ends own base own_edges k begun name
+      → HasSought held slice edges (marks ++ m ∷ []) (ends ++ to ∷ []) own base own_edges next begun after
+  has_whole m at end to next begun name after told moved far token none tells named h =
+      subst (λ (o : Option Mark). HasSought held slice edges (marks ++ m ∷ []) (ends ++ to ∷ []) own base own_edges next o after) (sym none)
+      (has_end held slice edges (marks ++ m ∷ []) ends own base own_edges k (record { kind = m.kind; at = at }) to end next (Some (record { kind = m.kind; at = at })) name after told far refl tells named
+      (has_token held slice edges marks ends own base own_edges k m at begun name moved token none h))
+
+-- a comma or a colon
+abbrev pub Separates : MarkKind → Type 0
+Separates k = (k ≡ mark.Comma) ⊎ (k ≡ mark.Colon)
+
+pub separator_plain : (k : MarkKind) → Separates k → is_token k ≡ false
+separator_plain k (inl h) = ap is_token h
+separator_plain k (inr h) = ap is_token h
+
+-- where something is skipped, no token changes how much is
+skips_as_many : (k : MarkKind) (n : ℕ) → is_token k ≡ true → skip_over k n ≡ suc n
+skips_as_many mark.String n h = refl
+skips_as_many mark.Number n h = refl
+skips_as_many mark.True n h = refl
+skips_as_many mark.False n h = refl
+skips_as_many mark.Null n h = refl
+skips_as_many mark.OpenArray n h = absurd cc
+skips_as_many mark.OpenObject n h = absurd cc
+skips_as_many mark.CloseArray n h = absurd cc
+skips_as_many mark.CloseObject n h = absurd cc
+skips_as_many mark.Colon n h = absurd cc
+skips_as_many mark.Comma n h = absurd cc
+
+module _ (text : List ℕ) (edges : List Edge) (k : MarkKind) (at end : ℕ) (f : Finding) where
+  skipped_in : (n : ℕ) → f.skipped ≡ suc n → sought text edges k at end f ≡ record f { skipped = skip_over k n }
+  skipped_in n e = ap (λ (i : ℕ). sought_in i text edges k at end f) e
+
+  -- a mark that changes nothing, whether something is skipped or not
+  stays : ((n : ℕ) → skip_over k n ≡ suc n) → (f.skipped ≡ 0 → f ≡ among text edges k at end f) → f ≡ sought text edges k at end f
+  stays as_many here = pick f.skipped refl
+    where
+      pick : (n : ℕ) → f.skipped ≡ n → f ≡ sought text edges k at end f
+      pick zero e = here e ∙ sym (ap (λ (i : ℕ). sought_in i text edges k at end f) e)
+      pick (suc n) e = ap (λ (i : ℕ). record f { skipped = i }) (e ∙ sym (as_many n)) ∙ sym (skipped_in n e)
+
+  separator_stays : Separates k → f ≡ sought text edges k at end f
+  separator_stays (inl h) = stays (λ n. ap (λ (x : MarkKind). skip_over x n) h) (λ e. sym (ap (λ (x : MarkKind). among text edges x at end f) h))
+  separator_stays (inr h) = stays (λ n. ap (λ (x : MarkKind). skip_over x n) h) (λ e. sym (ap (λ (x : MarkKind). among text edges x at end f) h))
+
+  -- a string, a number or a literal where something is skipped
+  token_stays : is_token k ≡ true → 0 < f.skipped → f ≡ sought text edges k at end f
+  token_stays token some = stays (λ n. skips_as_many k n token) (λ e. absurd (omega (arith, some, e)))
+
+pub separator_tells : (edges : List Edge) (kind : MarkKind) (at end : ℕ) (name : List ℕ) (k : Seeker) → Separates kind → Tells edges kind at end name k k
+separator_tells edges kind at end name k h = record {
+  noted = λ trie ready text named. separator_stays text edges kind at end (finding k.state) h;
+  ready = λ trie ready. ready;
+}
+
+pub token_tells : (edges : List Edge) (kind : MarkKind) (at end : ℕ) (name : List ℕ) (k : Seeker) → is_token kind ≡ true → 0 < k.state.skipped → Tells edges kind at end name k k
+token_tells edges kind at end name k token some = record {
+  noted = λ trie ready text named. token_stays text edges kind at end (finding k.state) token some;
+  ready = λ trie ready. ready;
+}
+
+-- a mark where something is skipped
+pub skip_tells : (edges : List Edge) (kind : MarkKind) (at end : ℕ) (name : List ℕ) (k : Seeker) (more : ℕ) → 0 < k.state.skipped → more ≡ skip_over kind (k.state.skipped - 1)
+    → Tells edges kind at end name k (record k { state = record k.state { skipped = more } })
+skip_tells edges kind at end name k more some is = record {
+  noted = λ trie ready text named. skipped_more text (finding k.state).skipped refl;
+  ready = λ trie ready. ready;
+}
+  where
+    skipped_more : (text : List ℕ) (n : ℕ) → k.state.skipped ≡ n → finding (record k.state { skipped = more }) ≡ sought text edges kind at end (finding k.state)
+    skipped_more text zero e = absurd (omega (arith, some, e))
+    skipped_more text (suc n) e =
+        ap (λ (i : ℕ). record (finding k.state) { skipped = i }) (is ∙ ap (skip_over kind) (let one : k.state.skipped - 1 ≡ n = omega (arith, e) in one))
+        ∙ sym (skipped_in text edges kind at end (finding k.state) n e)
+
+-- no token that is skipped is a name
+pub skipped_no_name : (kind : MarkKind) (f : Finding) → 0 < f.skipped → is_name_next kind f ≡ true → ⊥
+skipped_no_name mark.String f some h = let none : f.skipped ≡ 0 = same f.skipped 0 (first_true (f.skipped == 0) (is_some (naming f.opened f.name)) h) in absurd (omega (arith, some, none))
+skipped_no_name mark.OpenArray f some h = cc
+skipped_no_name mark.OpenObject f some h = cc
+skipped_no_name mark.CloseArray f some h = cc
+skipped_no_name mark.CloseObject f some h = cc
+skipped_no_name mark.Colon f some h = cc
+skipped_no_name mark.Comma f some h = cc
+skipped_no_name mark.Number f some h = cc
+skipped_no_name mark.True f some h = cc
+skipped_no_name mark.False f some h = cc
+skipped_no_name mark.Null f some h = cc

@@ -1,7 +1,8 @@
 // What pointers lead to, sought as a reader tells the tokens of a slice.
-ghost use Rattle.std.specs.Prelude.{◌≡◌, ◌++◌, [], ℕ, List, Some, length, IfOk};
+ghost use Rattle.std.specs.Prelude.{◌≡◌, ◌<◌, ◌-◌, ◌++◌, [], ℕ, List, Some, length, IfOk};
 ghost use Rattle.jx_lex.specs.declared.alphabet.mark.Mark.{Mark};
 ghost use Rattle.jx_run.specs.Telling.{moved_ends, moved_marks};
+ghost use Rattle.jx_index.specs.inside.Finding.{skip_over};
 ghost use Rattle.jx_index.specs.inside.Found.{finding};
 ghost use Rattle.jx_index.specs.inside.Trie.{is_name_next};
 ghost use Rattle.jx_find.specs.Held.{IsHeld};
@@ -9,7 +10,7 @@ ghost use Rattle.jx_find.specs.OnSlice.{HasSought};
 
 use crate::held::Sought;
 use jx_index::{Edge, Seeker, has_end, held_name, moved, token_bytes};
-use jx_lex::{Mark, TokenSink};
+use jx_lex::{Mark, MarkKind, TokenSink};
 use std::alloc::AllocError;
 use std::marker::{Brand, PhantomData};
 
@@ -35,6 +36,19 @@ impl Before for Brand {
     ghost slice = { [] };
 
     ghost edges = { [] };
+}
+
+/// How many containers are skipped behind a mark of this kind, where so many are skipped before it.
+#[inline(always)]
+fn skip(skipped: usize, kind: MarkKind) -> Result<usize, AllocError>
+    requires { 0 < skipped }
+    ensures { IfOk result (λ more. more ≡ skip_over kind (skipped - 1)) }
+{
+    match kind {
+        MarkKind::OpenArray | MarkKind::OpenObject => skipped.checked_add(1).ok_or(AllocError),
+        MarkKind::CloseArray | MarkKind::CloseObject => Ok(skipped - 1),
+        _ => Ok(skipped),
+    }
 }
 
 /// A seeker that is told the tokens of a slice which stands from `base` on.
@@ -126,14 +140,25 @@ impl<'a, 'p, B: Before> TokenSink for OnSlice<'a, 'p, B> {
 
     #[inline(always)]
     fn begin(&mut self, mark: Mark) -> Result<(), AllocError> {
-        let at = moved(self.base, mark.at)?;
+        match mark.kind {
+            // Neither changes what was found.
+            MarkKind::Comma | MarkKind::Colon => return Ok(()),
+            _ => {}
+        }
         if has_end(mark.kind) {
+            let at = moved(self.base, mark.at)?;
             self.begun = Some(Mark {
                 kind: mark.kind,
                 at,
             });
             return Ok(());
         }
+        let skipped = self.seeker.state.skipped;
+        if skipped != 0 {
+            self.seeker.state.skipped = skip(skipped, mark.kind)?;
+            return Ok(());
+        }
+        let at = moved(self.base, mark.at)?;
         self.seeker.tell(self.edges, mark.kind, at, 0, &[])?;
         Ok(())
     }
@@ -153,5 +178,19 @@ impl<'a, 'p, B: Before> TokenSink for OnSlice<'a, 'p, B> {
 
     fn is_done(&self) -> bool {
         false
+    }
+
+    #[inline(always)]
+    fn token(&mut self, mark: Mark, to: usize) -> Result<(), AllocError> {
+        // Where something is skipped, only brackets count.
+        if self.seeker.state.skipped != 0 {
+            return Ok(());
+        }
+        let at = moved(self.base, mark.at)?;
+        let end = moved(self.base, to)?;
+        let wanted = self.seeker.is_name_next(mark.kind);
+        let name = token_bytes(&mut self.name, self.slice, self.base, at, to, wanted)?;
+        self.seeker.tell(self.edges, mark.kind, at, end, name)?;
+        Ok(())
     }
 }

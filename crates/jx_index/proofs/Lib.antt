@@ -50,6 +50,7 @@ pub mod Tests
 pub mod Digits
 pub mod Ways
 pub mod Lookups
+pub mod Few
 pub mod Climbs
 pub mod Nexts
 pub mod Levels

@@ -2,6 +2,7 @@
 pub mod ArrayDigits
 pub mod Building
 pub mod Built
+pub mod FewEdges
 pub mod Finding
 pub mod Found
 pub mod JudgedIn

@@ -94,6 +94,7 @@ fn same_front(left: &[u8], one: Spelling, right: &[u8], other: Spelling) -> usiz
 }
 
 /// The first byte, where it stands for one unit of its own in a text and in a token.
+#[inline(always)]
 pub(crate) fn first_plain(bytes: &[u8], spelling: Spelling) -> Option<u8>
     ensures { IfSome result (λ unit. chars_units spelling 0 bytes.now ≡ unit ∷ chars_units spelling 0 (drop 1 bytes.now)) }
 {
@@ -119,11 +120,24 @@ fn compare_rests(left: &[u8], one: Spelling, right: &[u8], other: Spelling) -> O
 }
 
 /// Two names or tokens, as they are spelt. Bytes decide as long as each of them stands for one unit.
-pub(crate) fn compare_bytes(left: &[u8], one: Spelling, right: &[u8], other: Spelling) -> Ordering
+fn compare_whole(left: &[u8], one: Spelling, right: &[u8], other: Spelling) -> Ordering
     ensures { result ≡ slice_cmp nat_cmp (chars_units one 0 left.now) (chars_units other 0 right.now) }
 {
     let same = same_front(left, one, right, other);
     compare_rests(skip(left, same), one, skip(right, same), other)
+}
+
+/// The same. The first bytes mostly decide.
+#[inline(always)]
+#[tactic(auto, unfolding(crate::specs::Units::chars_units))]
+pub(crate) fn compare_bytes(left: &[u8], one: Spelling, right: &[u8], other: Spelling) -> Ordering
+    ensures { result ≡ slice_cmp nat_cmp (chars_units one 0 left.now) (chars_units other 0 right.now) }
+{
+    match (first_plain(left, one), first_plain(right, other)) {
+        (Some(first), Some(second)) if first < second => Ordering::Less,
+        (Some(first), Some(second)) if second < first => Ordering::Greater,
+        _ => compare_whole(left, one, right, other),
+    }
 }
 
 /// Two names of a text.
@@ -134,6 +148,7 @@ fn compare_text(left: &[u8], right: &[u8]) -> Ordering
 }
 
 /// Something as it is spelt against a token as a pointer spells it, by their units.
+#[inline(always)]
 pub(crate) fn compare_spelt(bytes: &[u8], spelling: Spelling, token: &[u8]) -> Ordering
     ensures { result ≡ slice_cmp nat_cmp (chars_units spelling 0 bytes.now) (chars_units InToken 0 token.now) }
 {

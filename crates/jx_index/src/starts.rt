@@ -4,6 +4,7 @@ ghost use Rattle.jx_index.specs.declared.trie.Edge.{Edge};
 ghost use Rattle.jx_index.specs.inside.Trie.{is_placed};
 
 use crate::trie::{Edge, Key, is_before_key};
+use jx_lex::Span;
 use std::alloc::{AllocError, Global};
 
 /// Lets each node up to this one that has no start yet begin at an edge.
@@ -48,13 +49,23 @@ fn is_placed(edges: &[Edge], at: usize, place: usize) -> bool
     }
 }
 
+/// Where the edges that lead from a node may be.
+#[inline(always)]
+pub(crate) fn edges_of(edges: &[Edge], starts: &[usize], node: usize) -> Span
+    ensures ordered { result.start ≤ result.end }
+    ensures within { result.end ≤ length edges.now }
+{
+    let end = start_of(edges, starts, node.saturating_add(1));
+    let start = start_of(edges, starts, node).min(end);
+    Span { start, end }
+}
+
 /// Where the first edge that does not stand before a key may be. In front of a place's edge stand those of no other places than
 /// the earlier ones, so where all of these have edges its own stands as far behind the first. Else the node's are halved.
 pub(crate) fn near(edges: &[Edge], starts: &[usize], key: &Key) -> usize
     ensures { result ≤ length edges.now }
 {
-    let end = start_of(edges, starts, key.node.saturating_add(1));
-    let start = start_of(edges, starts, key.node).min(end);
+    let Span { start, end } = edges_of(edges, starts, key.node);
     let dense = start.saturating_add(key.place).min(end);
     if dense < end && is_placed(edges, dense, key.place) {
         return dense;

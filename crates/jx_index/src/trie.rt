@@ -7,7 +7,7 @@ ghost use Rattle.jx_index.specs.Units.{chars_units};
 ghost use Rattle.jx_index.specs.inside.Trie.{edge_key, edge_units, leads_to_units, place_number, place_of, sought_key};
 
 use crate::array_token::{Place, place_of_token};
-use crate::names::compare_spelt;
+use crate::names::{compare_spelt, first_plain};
 use crate::units::{Spelling, Units};
 use std::cmp::Ordering;
 
@@ -32,11 +32,14 @@ fn number_of(place: Place) -> usize
     }
 }
 
-/// The place that some units name, or the greatest `usize`.
+/// The place that some units name, or the greatest `usize`. The first byte mostly decides.
 pub(crate) fn place_of(bytes: &[u8], spelling: Spelling) -> usize
     ensures { result ≡ place_of (chars_units spelling 0 bytes.now) }
 {
-    number_of(place_of_token(Units::new(bytes, spelling), usize::MAX))
+    match first_plain(bytes, spelling) {
+        Some(first) if first > b'9' => usize::MAX,
+        _ => number_of(place_of_token(Units::new(bytes, spelling), usize::MAX)),
+    }
 }
 
 /// The edge of a token from a node.
@@ -92,11 +95,19 @@ pub(crate) fn is_before_key(edge: &Edge, key: &Key) -> bool
     compare_spelt(key.bytes, key.spelling, edge.name).is_gt()
 }
 
+/// Whether an edge leads on from a node by a token or a name, as it is spelt.
+#[inline(always)]
+pub(crate) fn leads_by(edge: &Edge, node: usize, bytes: &[u8], spelling: Spelling) -> bool
+    ensures { result ≡ leads_to_units node (chars_units spelling 0 bytes.now) edge.now }
+{
+    edge.parent == node && compare_spelt(bytes, spelling, edge.name).is_eq()
+}
+
 /// Whether an edge leads on from a key's node by its token.
 pub(crate) fn leads_on(edge: &Edge, key: &Key) -> bool
     ensures { result ≡ leads_to_units key.now.node (chars_units key.now.spelling 0 key.now.bytes.now) edge.now }
 {
-    edge.parent == key.node && compare_spelt(key.bytes, key.spelling, edge.name).is_eq()
+    leads_by(edge, key.node, key.bytes, key.spelling)
 }
 
 /// The edge with a number.

@@ -2,6 +2,7 @@
 ghost use Rattle.std.specs.Prelude.{◌≡◌, ◌∷◌, ◌≤◌, [], ℕ, List, length, map, slice_get, IfOk, IsTrue, Some};
 ghost use Rattle.jx_index.specs.Pointers.{tokens};
 ghost use Rattle.jx_index.specs.Units.{chars_units};
+ghost use Rattle.jx_index.specs.inside.FewEdges.{is_led, BeginsAt, EndsAt};
 ghost use Rattle.jx_index.specs.inside.Finding.{met_at};
 ghost use Rattle.jx_index.specs.inside.Trie.{child_at, follows, member_at, sought_key, stands_before, IsFirstFrom, IsTrie, IsWay};
 
@@ -9,8 +10,8 @@ use crate::find::token_len;
 use crate::finder::Met;
 use crate::names::{keep, string_bytes};
 use crate::pointer::Pointer;
-use crate::starts::near;
-use crate::trie::{Edge, Key, edge_at, is_before_key, leads_on, place_of};
+use crate::starts::{edges_of, near};
+use crate::trie::{Edge, Key, edge_at, is_before_key, leads_by, leads_on, place_of};
 use crate::units::{Spelling, skip};
 use jx_lex::Span;
 use std::alloc::{AllocError, Global};
@@ -56,8 +57,8 @@ fn first_from(edges: &[Edge], starts: &[usize], key: &Key) -> usize
     edges.partition_point(|edge| is_before_key(edge, key))
 }
 
-/// The node to which some units lead from another.
-pub(crate) fn child(
+/// The node to which some units lead from another, where its edges are halved.
+fn child_by_order(
     edges: &[Edge],
     starts: &[usize],
     node: usize,
@@ -78,6 +79,81 @@ pub(crate) fn child(
         Some(edge) if leads_on(&edge, &key) => Some(at + 1),
         _ => None,
     }
+}
+
+/// Whether no edge in front of this number leads from a node, as its neighbour tells.
+#[inline(always)]
+fn begins_at(edges: &[Edge], node: usize, at: usize) -> bool
+    ensures { IsTrue result → IsTrie edges.now → BeginsAt edges.now node at }
+{
+    if at == 0 {
+        return true;
+    }
+    match edge_at(edges, at - 1) {
+        Some(edge) => edge.parent < node,
+        None => false,
+    }
+}
+
+/// Whether no edge from this number on leads from a node, as the first of them tells.
+#[inline(always)]
+fn ends_at(edges: &[Edge], node: usize, at: usize) -> bool
+    ensures { IsTrue result → IsTrie edges.now → EndsAt edges.now node at }
+{
+    match edge_at(edges, at) {
+        Some(edge) => node < edge.parent,
+        None => true,
+    }
+}
+
+/// Whether there is an edge with this number, and it leads on from a node.
+#[inline(always)]
+fn is_led(edges: &[Edge], at: usize, node: usize, bytes: &[u8], spelling: Spelling) -> bool
+    ensures { result ≡ is_led (slice_get edges.now at) node (chars_units spelling 0 bytes.now) }
+{
+    match edges.get(at) {
+        Some(edge) => leads_by(edge, node, bytes, spelling),
+        None => false,
+    }
+}
+
+/// The node to which some units lead from another whose edges all stand in a range: each of these is tried.
+fn child_among(
+    edges: &[Edge],
+    range: Span,
+    node: usize,
+    bytes: &[u8],
+    spelling: Spelling,
+) -> Option<usize>
+    ensures { BeginsAt edges.now node range.start → EndsAt edges.now node range.end → result ≡ child_at edges.now node (chars_units spelling 0 bytes.now) }
+{
+    for at in range.start..range.end {
+        if is_led(edges, at, node, bytes, spelling) {
+            return Some(at + 1);
+        }
+    }
+    None
+}
+
+/// How many edges of a node are tried one after another.
+const FEW: usize = 8;
+
+/// The node to which some units lead from another.
+pub(crate) fn child(
+    edges: &[Edge],
+    starts: &[usize],
+    node: usize,
+    bytes: &[u8],
+    spelling: Spelling,
+) -> Option<usize>
+    ensures { IsTrie edges.now → result ≡ child_at edges.now node (chars_units spelling 0 bytes.now) }
+{
+    let range = edges_of(edges, starts, node);
+    let is_few = range.end - range.start <= FEW;
+    if is_few && begins_at(edges, node, range.start) && ends_at(edges, node, range.end) {
+        return child_among(edges, range, node, bytes, spelling);
+    }
+    child_by_order(edges, starts, node, bytes, spelling)
 }
 
 /// The node of the member of a node's object that has a name.

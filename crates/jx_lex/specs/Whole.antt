@@ -1,5 +1,5 @@
 -- Whole tokens and blanks, read from between tokens on.
-use Rattle.std.specs.Prelude.{◌≡◌, ◌≤◌, ◌<◌, ℕ, List, [], ◌∷◌, length, Some, slice_range}
+use Rattle.std.specs.Prelude.{◌≡◌, ◌≤◌, ◌<◌, ◌==◌, ℕ, List, [], ◌∷◌, if◌then◌else◌, length, Some, slice_index, slice_range}
 use Rattle.jx_lex.specs.declared.alphabet.state.LexState.{LexState}
 use Rattle.jx_lex.specs.declared.alphabet.state.LexState.TheVariants as state
 use Rattle.jx_lex.specs.declared.alphabet.state.TokenEnd.TheVariants.{Before}
@@ -10,11 +10,12 @@ use Rattle.jx_lex.specs.Lex as reading
 use Rattle.jx_lex.specs.Lex.{lex}
 use Rattle.jx_lex.specs.Moves.{move}
 
--- the bytes between two offsets are read from between tokens to between tokens, and have these marks
-pub record Passes (text : List ℕ) (from to : ℕ) (marks : List Mark) : Type 0 where
+-- the bytes between two offsets are read from between tokens to between tokens, and have these marks and ends
+pub record Passes (text : List ℕ) (from to : ℕ) (marks : List Mark) (ends : List ℕ) : Type 0 where
   pub low : from ≤ to
   pub fits : to ≤ length text
   pub marks_are : (lex state.Gap from (slice_range text from to)).marks ≡ marks
+  pub ends_are : (lex state.Gap from (slice_range text from to)).ends ≡ ends
   pub exit : (lex state.Gap from (slice_range text from to)).exit ≡ reading.state state.Gap
 
 -- a token ends before this byte, which is then read as between tokens
@@ -32,6 +33,7 @@ pub record PassesNumber (text : List ℕ) (from to : ℕ) : Type 0 where
   pub last : LexState
   pub may_end : MayEnd last
   pub marks_are : (lex state.Gap from (slice_range text from to)).marks ≡ record { kind = Number; at = from } ∷ []
+  pub ends_are : (lex state.Gap from (slice_range text from to)).ends ≡ []
   pub exit : (lex state.Gap from (slice_range text from to)).exit ≡ reading.state last
 
 -- a mark of `true`, `false` or `null`
@@ -40,8 +42,13 @@ pub data IsLiteral : MarkKind → Type 0 where
   is_false : IsLiteral False
   is_null : IsLiteral Null
 
+-- which literal begins with a byte
+abbrev pub literal_of : ℕ → MarkKind
+literal_of byte = if byte == 0x74 then True else if byte == 0x66 then False else Null
+
 -- the bytes between two offsets are a literal
 pub record PassesLiteral (text : List ℕ) (from to : ℕ) : Type 0 where
   pub kind : MarkKind
   pub literal : IsLiteral kind
-  pub passes : Passes text from to (record { kind = kind; at = from } ∷ [])
+  pub first : kind ≡ literal_of (slice_index text from)
+  pub passes : Passes text from to (record { kind = kind; at = from } ∷ []) (to ∷ [])

@@ -279,16 +279,19 @@ fn pass_on<K: TokenSink>(
     text: &[u8],
     from: usize,
     to: usize,
-) -> usize
+) -> Result<usize, AllocError>
     requires bounds { (from ≤ to) × (to ≤ length text.now) }
     requires turn { K.awaits sink.old (in_token state) }
-    ensures bounds { (from ≤ result) × (result ≤ to) }
-    ensures read { GoesTo (K.has_seen sink.old) (K.has_seen sink.new) (lex state from (slice_range text.now from result)) state }
-    ensures turn { K.awaits sink.new (in_token state) }
+    ensures bounds { IfOk result (λ end. (from ≤ end) × (end ≤ to)) }
+    ensures read { IfOk result (λ end. GoesTo (K.has_seen sink.old) (K.has_seen sink.new) (lex state from (slice_range text.now from end)) state) }
+    ensures turn { OnOk result (K.awaits sink.new (in_token state)) }
 {
     match state {
-        LexState::Gap => sink.pass(text, from, to),
-        _ => from,
+        LexState::Gap => {
+            let end = sink.pass(text, from, to)?;
+            Ok(end)
+        }
+        _ => Ok(from),
     }
 }
 
@@ -315,14 +318,16 @@ fn read_rest<K: TokenSink>(
     match *state {
         LexState::Str => {
             let end = string_rest(sink, state, text, from, to, ahead)?;
-            Ok(pass_on(sink, *state, text, end, to))
+            let behind = pass_on(sink, *state, text, end, to)?;
+            Ok(behind)
         }
         LexState::Gap => {
             let end = gap_end(text, byte, from, to);
             if byte >= b'[' {
                 return Ok(end);
             }
-            Ok(sink.pass(text, end, to))
+            let behind = sink.pass(text, end, to)?;
+            Ok(behind)
         }
         LexState::Minus | LexState::Zero | LexState::Int => {
             let end = number(sink, state, text, from, to)?;
@@ -370,7 +375,8 @@ pub fn scan<K: TokenSink>(
     ensures turn { IfOk result (λ exit. IfSome exit (AwaitsAt (K.awaits sink.new))) }
 {
     let mut state = state;
-    let mut i = pass_on(sink, state, text, from, to);
+    let begin = pass_on(sink, state, text, from, to)?;
+    let mut i = begin;
     let mut ahead = known_ahead(state);
     while i < to {
         if sink.is_done() {

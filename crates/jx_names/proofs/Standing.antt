@@ -1,5 +1,5 @@
 -- What is kept by units follows what is built, mark by mark.
-use Rattle.std.proofs.Common.{◌≡◌, ℕ, ◌+◌, ◌-◌, ◌⊎◌, List, [], ◌∷◌, ◌++◌, length, take, drop, map, Bool, true, false, Option, None, Some, refl, sym, ap, subst, ◌∙◌, arith}
+use Rattle.std.proofs.Common.{◌≡◌, ℕ, ◌-◌, ◌⊎◌, List, [], ◌∷◌, ◌++◌, length, take, drop, map, Bool, true, false, Option, None, Some, refl, sym, ap, subst, ◌∙◌, arith, inl, inr, append-nil}
 use Rattle.std.specs.Prelude.{option_to_list, slice_range}
 use Rattle.std.proofs.lemmas.List.{length-append, take_all}
 use Rattle.std.proofs.Math.Seq.{drop-append_seam}
@@ -12,7 +12,7 @@ use Rattle.jx_index.specs.declared.open_names.Holder.{Holder}
 use Rattle.jx_index.specs.declared.units.Spelling.TheVariants.{InText}
 use Rattle.jx_index.specs.Repeats.{IsLeast}
 use Rattle.jx_index.specs.Units.{between_marks, chars_units, units_at}
-use Rattle.jx_index.specs.inside.Building.{Building, add_string, begin_container, ended, nothing_built, on_mark}
+use Rattle.jx_index.specs.inside.Building.{Building, add_string, begin_container, ended, is_token, nothing_built, on_mark}
 use Rattle.jx_index.specs.inside.NameKeys.{key_behind}
 use Rattle.jx_index.specs.inside.NameLists.{start_at, IsRepeatedName}
 use Rattle.jx_index.specs.inside.OpenNames as index
@@ -22,7 +22,7 @@ use Rattle.jx_index.proofs.OpenNames.{container_held, end_held, named_held, none
 use Rattle.jx_string.specs.Texts.{string_units}
 use Rattle.jx_names.specs.declared.name_units.Name.{Name}
 use Rattle.jx_names.specs.declared.open_names.Container.{Container}
-use Rattle.jx_names.specs.inside.KeptNames.{AreKept, Ends, EndsIn, IsKept, IsKeptToo, Kept, Stands, cut_back, end_from, holder, names_next, start_of, units_in, with_container, with_name, with_value}
+use Rattle.jx_names.specs.inside.KeptNames.{AreKept, Ends, EndsIn, IsKept, IsKeptToo, Kept, Stands, cut_back, end_from, holder, is_name_next, names_next, start_of, units_in, with_container, with_name, with_value}
 use Rattle.jx_names.proofs.Alike.{alike_drop, least_alike}
 use Rattle.jx_names.proofs.Keeping.{all_stay, are_alike, cut_kept, cut_too, ends_within, first_kept, keys_behind, one_more, same_long}
 
@@ -158,3 +158,24 @@ module _ (text : List ℕ) (b : Building) (k : Kept) (x : Stands text b k) where
 
   pub stands_scalar : (kd : MarkKind) (at end : ℕ) → (kd ≡ mark.Number) ⊎ (kd ≡ mark.True) ⊎ (kd ≡ mark.False) ⊎ (kd ≡ mark.Null) → Stands text (on_mark kd at end b) (with_value k)
   stands_scalar kd at end is = record { held = index.with_value x.held; holds = scalar_held text b x.held kd at end is x.holds; kept = value_kept text x.held k x.kept }
+
+  -- a value of one token, whichever it is
+  pub stands_value : (kd : MarkKind) (at end : ℕ) → is_token kd ≡ true → is_name_next kd k ≡ false → Stands text (on_mark kd at end b) (with_value k)
+  stands_value mark.String at end token other = stands_string at end other
+  stands_value mark.Number at end token other = stands_scalar mark.Number at end (inl refl)
+  stands_value mark.True at end token other = stands_scalar mark.True at end (inr (inl refl))
+  stands_value mark.False at end token other = stands_scalar mark.False at end (inr (inr (inl refl)))
+  stands_value mark.Null at end token other = stands_scalar mark.Null at end (inr (inr (inr refl)))
+  stands_value mark.OpenArray at end token other = absurd cc
+  stands_value mark.OpenObject at end token other = absurd cc
+  stands_value mark.CloseArray at end token other = absurd cc
+  stands_value mark.CloseObject at end token other = absurd cc
+  stands_value mark.Colon at end token other = absurd cc
+  stands_value mark.Comma at end token other = absurd cc
+
+-- where no name waits, a value changes nothing
+pub value_alone : (k : Kept) → k.name ≡ None → with_value k ≡ k
+value_alone k none =
+    ap (λ (o : Option Name). record k { names = k.names ++ option_to_list o; name = None }) none
+    ∙ ap (λ (ns : List Name). record k { names = ns; name = None }) (append-nil k.names)
+    ∙ ap (λ (o : Option Name). record k { name = o }) (sym none)

@@ -1,6 +1,6 @@
 -- What names that are told the tokens of a slice are held of.
-use Rattle.std.proofs.Common.{◌≡◌, ℕ, ◌+◌, ◌<◌, ◌≤◌, List, [], ◌∷◌, ◌++◌, length, drop, refl, sym, ap, subst, ◌∙◌, append-nil, arith, true, false, Option, None, Some}
-use Rattle.std.specs.Prelude.{slice_range}
+use Rattle.std.proofs.Common.{◌≡◌, ℕ, ◌+◌, ◌<◌, ◌≤◌, List, [], ◌∷◌, ◌++◌, length, drop, refl, sym, ap, subst, ◌∙◌, append-nil, arith, true, false, inl, inr, Option, None, Some}
+use Rattle.std.specs.Prelude.{◌⊎◌, slice_range}
 use Rattle.jx_lex.specs.declared.alphabet.mark.Mark.{Mark}
 use Rattle.jx_lex.specs.declared.alphabet.mark.MarkKind.{MarkKind}
 use Rattle.jx_lex.specs.declared.alphabet.mark.MarkKind.TheVariants as mark
@@ -112,6 +112,30 @@ module _ (held : Holds) (slice : List ℕ) (marks : List Mark) (ends : List ℕ)
         ap (λ (xs : List ℕ). slice_range ((before ++ xs) ++ future) m.at (base + at)) (sym h.slice_is)
         ∙ sym (named e before future b (λ low. s.name_is m refl e (subst (λ (i : ℕ). m.at < i) b low)))) s);
   }
+
+module _ (held : Holds) (slice : List ℕ) (marks : List Mark) (ends : List ℕ) (own : List ℕ) (base : ℕ) (names : OpenNames) where
+  -- a mark, and at once the end that belongs to it
+  pub has_whole : (m : Mark) (at to : ℕ) (next : OpenNames) (begun : Option Mark) (name after told : List ℕ) → at ≡ base + m.at → is_token m.kind ≡ true → begun ≡ None
+      → Tells m.kind at told names next
+      → (is_name_next m.kind (kept names) ≡ true → (before future : List ℕ) → base ≡ length before → (at < base → name ≡ drop at before) → told ≡ slice_range ((before ++ own) ++ future) at (base + to))
+      → HasTold held slice marks ends own base names begun name → HasTold held slice (marks ++ m ∷ []) (ends ++ to ∷ []) own base next begun after
+  has_whole m at to next begun name after told moved token none tells named h =
+      subst (λ (o : Option Mark). HasTold held slice (marks ++ m ∷ []) (ends ++ to ∷ []) own base next o after) (sym none)
+      (has_end held slice (marks ++ m ∷ []) ends own base names (record { kind = m.kind; at = at }) to next (Some (record { kind = m.kind; at = at })) name after told refl tells named
+      (has_token held slice marks ends own base names m at begun name moved token none h))
+
+-- ---- a comma or a colon
+
+abbrev pub Separates : MarkKind → Type 0
+Separates k = (k ≡ mark.Comma) ⊎ (k ≡ mark.Colon)
+
+pub separator_plain : (k : MarkKind) → Separates k → is_token k ≡ false
+separator_plain k (inl h) = ap is_token h
+separator_plain k (inr h) = ap is_token h
+
+pub separator_tells : (k : MarkKind) (at : ℕ) (name : List ℕ) (names : OpenNames) → Separates k → Tells k at name names names
+separator_tells k at name names (inl h) = λ text b end named s. subst (λ (x : MarkKind). Stands text (on_mark x at end b) (kept names)) (sym h) s
+separator_tells k at name names (inr h) = λ text b end named s. subst (λ (x : MarkKind). Stands text (on_mark x at end b) (kept names)) (sym h) s
 
 -- ---- the first byte and the last
 

@@ -9,7 +9,7 @@ ghost use Rattle.jx_names.specs.inside.SliceNames.{HasTold};
 use crate::held::Held;
 use crate::open_names::OpenNames;
 use jx_index::{has_end, held_name, moved, token_bytes};
-use jx_lex::{Mark, TokenSink};
+use jx_lex::{Mark, MarkKind, TokenSink};
 use std::alloc::AllocError;
 use std::marker::{Brand, PhantomData};
 
@@ -102,6 +102,11 @@ impl<'a, B: Before> TokenSink for OnSlice<'a, B> {
 
     #[inline(always)]
     fn begin(&mut self, mark: Mark) -> Result<(), AllocError> {
+        match mark.kind {
+            // Neither changes which names there are.
+            MarkKind::Comma | MarkKind::Colon => return Ok(()),
+            _ => {}
+        }
         let at = moved(self.base, mark.at)?;
         if has_end(mark.kind) {
             self.begun = Some(Mark {
@@ -128,5 +133,17 @@ impl<'a, B: Before> TokenSink for OnSlice<'a, B> {
 
     fn is_done(&self) -> bool {
         false
+    }
+
+    #[inline(always)]
+    fn token(&mut self, mark: Mark, to: usize) -> Result<(), AllocError> {
+        if !self.names.is_name_next(mark.kind) {
+            self.names.scalar()?;
+            return Ok(());
+        }
+        let at = moved(self.base, mark.at)?;
+        let name = token_bytes(&mut self.name, self.slice, self.base, at, to, true)?;
+        self.names.tell(mark.kind, at, name)?;
+        Ok(())
     }
 }

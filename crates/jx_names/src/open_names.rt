@@ -1,7 +1,8 @@
 // The names of the members of open objects, while a text is read.
-ghost use Rattle.std.specs.Prelude.{◌≡◌, ℕ, List, None, Some, drop, reverse, slice_range, true, IfOk};
+ghost use Rattle.std.specs.Prelude.{◌≡◌, ℕ, List, None, Some, drop, false, reverse, slice_range, true, IfOk};
+ghost use Rattle.jx_lex.specs.declared.alphabet.mark.MarkKind.{MarkKind};
 ghost use Rattle.jx_index.specs.Repeats.{IsLeast};
-ghost use Rattle.jx_index.specs.inside.Building.{Building, nothing_built, on_mark};
+ghost use Rattle.jx_index.specs.inside.Building.{Building, is_token, nothing_built, on_mark};
 ghost use Rattle.jx_string.specs.Texts.{string_units};
 ghost use Rattle.jx_names.specs.inside.KeptNames.{cut_back, end_from, kept, is_name_next, names_next, with_container, with_name, with_value, Ends, HaveKeys, IsRepeatedKept, Stands};
 
@@ -134,6 +135,7 @@ impl OpenNames {
     }
 
     /// Whether a string that comes next is a name: the innermost open container is an object, and no name waits.
+    #[inline(always)]
     fn names_next(&self) -> bool
         ensures { result ≡ names_next (reverse self.now.opened.items) self.now.name }
     {
@@ -152,6 +154,19 @@ impl OpenNames {
             MarkKind::String => self.names_next(),
             _ => false,
         }
+    }
+
+    /// A value of one token, which is no name. Only want of memory is refused.
+    #[inline(always)]
+    pub(crate) fn scalar(&mut self) -> Result<(), AllocError>
+        ensures { IfOk result (λ _. (text : List ℕ) (b : Building) (kind : MarkKind) (at end : ℕ) → is_token kind ≡ true → is_name_next kind (kept self.old) ≡ false
+            → Stands text b (kept self.old) → Stands text (on_mark kind at end b) (kept self.new)) }
+    {
+        let Some(_) = self.name else {
+            return Ok(());
+        };
+        self.begin_value()?;
+        Ok(())
     }
 
     /// A name that begins at an offset, by its bytes with the quotation marks.

@@ -13,7 +13,7 @@ use Rattle.jx_block.proofs.Words.{bit-low}
 use Rattle.jx_reduce.specs.Bits.{holder_of, in_word}
 use Rattle.jx_reduce.specs.Read.{top, without_top}
 use Rattle.jx_reduce.specs.inside.Blocks.{container, Steps, along, array_opens, array_closes, object_opens, object_closes, Walks}
-use Rattle.jx_reduce.specs.declared.stack.bracket_walk.Innermost.{Innermost}
+use Rattle.jx_reduce.specs.declared.stack.containers.Innermost.{Innermost}
 use Rattle.jx_reduce.specs.declared.table.holder.Holder.{Holder}
 use Rattle.jx_reduce.proofs.KnownWords.{length-in_word}
 

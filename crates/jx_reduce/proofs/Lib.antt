@@ -25,8 +25,10 @@ pub mod Cuts
 mod BlockBits
 mod BlockMarks
 mod BlockWalk
+mod KnownAround
 mod KnownWords
 pub mod KnownMoves
 mod Passed
+mod Sees
 mod OneByOne
 mod Shifts

@@ -20,11 +20,11 @@ use Rattle.jx_reduce.proofs.Readings.{read-append}
 
 -- ---- stretches
 
-pub reads-of : (d : ℕ) (xs : List ℕ) (a b : ℕ) (ms : List Mark) (r s : Reading) → Passes xs a b ms → s ≡ read d ms r → Reads d xs a b r s
+pub reads-of : (d : ℕ) (xs : List ℕ) (a b : ℕ) (ms : List Mark) {es : List ℕ} (r s : Reading) → Passes xs a b ms es → s ≡ read d ms r → Reads d xs a b r s
 reads-of d xs a b ms r s p e =
     record { low = p.low; fits = p.fits; exit = p.exit; read = e ∙ ap (λ (us : List Mark). read d us r) (sym p.marks_are) }
 
-pub reads-blank : (d : ℕ) (xs : List ℕ) (a b : ℕ) (r : Reading) → Passes xs a b [] → Reads d xs a b r r
+pub reads-blank : (d : ℕ) (xs : List ℕ) (a b : ℕ) (r : Reading) → Passes xs a b [] [] → Reads d xs a b r r
 reads-blank d xs a b r p = reads-of d xs a b [] r r p refl
 
 pub reads-none : (d : ℕ) (xs : List ℕ) (a : ℕ) (r : Reading) → a ≤ length xs → Reads d xs a a r r
@@ -53,18 +53,18 @@ pub moves : (d : ℕ) (m : Mark) (c : Change) (e f : Expect) (s : List Holder) �
 moves d m c e f s h k =
     ap (λ (x : Change). moved d m.at x (next_of m.kind e (top s)) s) h ∙ ap (λ (o : Option Expect). moved d m.at c o s) k
 
-pub reads-same : (d : ℕ) (xs : List ℕ) (a b : ℕ) (m : Mark) (e f : Expect) (s : List Holder) → Passes xs a b (m ∷ []) → change_of m.kind ≡ same → next_of m.kind e (top s) ≡ Some f
+pub reads-same : (d : ℕ) (xs : List ℕ) (a b : ℕ) (m : Mark) {es : List ℕ} (e f : Expect) (s : List Holder) → Passes xs a b (m ∷ []) es → change_of m.kind ≡ same → next_of m.kind e (top s) ≡ Some f
     → Reads d xs a b (went e s) (went f s)
 reads-same d xs a b m e f s p h k = reads-of d xs a b (m ∷ []) (went e s) (went f s) p (sym (moves d m same e f s h k))
 
-pub reads-removed : (d : ℕ) (xs : List ℕ) (a b : ℕ) (m : Mark) (e f : Expect) (s t : List Holder) → Passes xs a b (m ∷ []) → change_of m.kind ≡ removed → next_of m.kind e (top s) ≡ Some f
+pub reads-removed : (d : ℕ) (xs : List ℕ) (a b : ℕ) (m : Mark) {es : List ℕ} (e f : Expect) (s t : List Holder) → Passes xs a b (m ∷ []) es → change_of m.kind ≡ removed → next_of m.kind e (top s) ≡ Some f
     → t ≡ without_top s → Reads d xs a b (went e s) (went f t)
 reads-removed d xs a b m e f s t p h k out = reads-of d xs a b (m ∷ []) (went e s) (went f t) p (ap (went f) out ∙ sym (moves d m removed e f s h k))
 
 pub within_depth : (d at : ℕ) (h : Holder) (f : Expect) (s : List Holder) → length s < d → changed d at (added h) f s ≡ went f (h ∷ s)
 within_depth d at h f s low = ap (λ (b : Bool). if b then went f (h ∷ s) else too_deep at) (lt-ltb (length s) d low)
 
-pub reads-added : (d : ℕ) (xs : List ℕ) (a b : ℕ) (m : Mark) (h : Holder) (e f : Expect) (s : List Holder) → Passes xs a b (m ∷ []) → change_of m.kind ≡ added h → next_of m.kind e (top s) ≡ Some f
+pub reads-added : (d : ℕ) (xs : List ℕ) (a b : ℕ) (m : Mark) {es : List ℕ} (h : Holder) (e f : Expect) (s : List Holder) → Passes xs a b (m ∷ []) es → change_of m.kind ≡ added h → next_of m.kind e (top s) ≡ Some f
     → length s < d → Reads d xs a b (went e s) (went f (h ∷ s))
 reads-added d xs a b m h e f s p c k low = reads-of d xs a b (m ∷ []) (went e s) (went f (h ∷ s)) p (sym (moves d m (added h) e f s c k ∙ within_depth d m.at h f s low))
 
@@ -74,12 +74,12 @@ takes : (e : Expect) → TakesValue e → (f : Expect) → where_value f e ≡ S
 takes e (inl h) f = ap (where_value f) h
 takes e (inr h) f = ap (where_value f) h
 
-pub reads-string : (d : ℕ) (xs : List ℕ) (a b : ℕ) (e f : Expect) (s : List Holder) → Passes xs a b (record { kind = mark.String; at = a } ∷ []) → where_string e ≡ Some f
+pub reads-string : (d : ℕ) (xs : List ℕ) (a b : ℕ) {es : List ℕ} (e f : Expect) (s : List Holder) → Passes xs a b (record { kind = mark.String; at = a } ∷ []) es → where_string e ≡ Some f
     → Reads d xs a b (went e s) (went f s)
 reads-string d xs a b e f s p h = reads-same d xs a b (record { kind = mark.String; at = a }) e f s p refl h
 
 -- a number, and then a blank
-reads-number : (d : ℕ) (xs : List ℕ) (a b : ℕ) (e : Expect) (s : List Holder) → Passes xs a b (record { kind = mark.Number; at = a } ∷ []) → TakesValue e → Reads d xs a b (went e s) (went After s)
+reads-number : (d : ℕ) (xs : List ℕ) (a b : ℕ) {es : List ℕ} (e : Expect) (s : List Holder) → Passes xs a b (record { kind = mark.Number; at = a } ∷ []) es → TakesValue e → Reads d xs a b (went e s) (went After s)
 reads-number d xs a b e s p t = reads-same d xs a b (record { kind = mark.Number; at = a }) e After s p refl (takes e t After)
 
 reads-number_space : (d : ℕ) (xs : List ℕ) (a b : ℕ) (e : Expect) (s : List Holder) → PassesNumber xs a b → TakesValue e → b < length xs → get_or xs b 0 ≡ 0x20

@@ -17,5 +17,6 @@ pub mod Outcome
 pub mod Whole
 pub mod Shift
 pub mod Bits
+pub mod Containers
 pub mod KnownStack
 pub mod inside

@@ -5,6 +5,7 @@ pub mod Follow
 pub mod KnownInside
 pub mod OpenContainers
 pub mod Passed
+pub mod Told
 pub mod Quiet
 pub mod Reducers
 pub mod Shifted

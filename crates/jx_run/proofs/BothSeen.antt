@@ -8,7 +8,7 @@ use Rattle.jx_lex.specs.declared.alphabet.mark.Mark.{Mark}
 use Rattle.jx_lex.specs.declared.alphabet.state.LexState.TheVariants as state
 use Rattle.jx_lex.specs.Lex as lexical
 use Rattle.jx_lex.specs.Lex.{lex}
-use Rattle.jx_lex.specs.Seen.{Seen, SeesTrack, WantsNoMore}
+use Rattle.jx_lex.specs.Seen.{Grows, Seen, SeesTrack, WantsNoMore}
 use Rattle.jx_lex.specs.Exit.{exit_of}
 use Rattle.jx_reduce.specs.declared.table.whole.Whole.{Whole}
 use Rattle.jx_reduce.specs.KnownStack.{Known, IsFault, HasRead as StackHasRead, start as stack_start}
@@ -22,7 +22,7 @@ use Rattle.jx_run.specs.Whole.{verdict_from}
 use Rattle.jx_run.specs.declared.texts.verdict.Verdict.TheVariants as verdict
 use Rattle.jx_run.proofs.LawProofs.{Verdicts}
 use Rattle.jx_lex.specs.declared.alphabet.mark.MarkKind.TheVariants as kind
-use Rattle.jx_reduce.proofs.KnownMoves.{seen_done}
+use Rattle.jx_reduce.proofs.KnownMoves.{read-fault, seen_done}
 use Rattle.jx_run.proofs.ReaderSteps.{stuck}
 use Rattle.jx_run.proofs.RunVerdict.{same_verdict}
 
@@ -52,6 +52,18 @@ both_end at stack before after others marks ends h = record {
   ends = h.ends ++ at ∷ [];
   rest = ap (λ (es : List ℕ). es ++ at ∷ []) h.rest;
   other_has = λ sound said. others marks h.ends (h.other_has sound said);
+}
+
+-- whole tokens that are passed at once
+pub both_pass : (more : List Mark) (others : List ℕ) (old new : Known) (before after : Seen) → new.depth ≡ old.depth → new.reading ≡ read_marks old.depth more old.reading
+    → ((marks : List Mark) → StackHasRead marks old → StackHasRead (marks ++ more) new) → Grows before after more others
+    → (marks : List Mark) (ends : List ℕ) → BothHaveSeen before marks ends old → BothHaveSeen after (marks ++ more) (ends ++ others) new
+both_pass more others old new before after deep reads has grows marks ends h = record {
+  stack_has = record { read = has marks h.stack_has.read; rest = h.stack_has.rest ++ others; depth = ap (λ (es : List ℕ). es ++ others) h.stack_has.depth ∙ ap (λ (n : ℕ). n ∷ (h.stack_has.rest ++ others)) (sym deep) };
+  said = h.said;
+  ends = h.ends ++ others;
+  rest = ap (λ (es : List ℕ). es ++ others) h.rest;
+  other_has = λ sound said. grows marks h.ends (h.other_has (λ f. sound (subst IsFault (sym reads) (subst IsFault (sym (read-fault old.depth more old.reading f)) f))) said);
 }
 
 pub both_done : (stack : Known) (other : Seen) → IsFault stack.reading → WantsNoMore (λ marks ends. BothHaveSeen other marks ends stack)

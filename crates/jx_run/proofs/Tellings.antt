@@ -10,6 +10,7 @@ use Rattle.jx_lex.specs.declared.alphabet.mark.Mark.{Mark}
 use Rattle.jx_lex.specs.declared.alphabet.mark.MarkKind.TheVariants as kind
 use Rattle.jx_lex.specs.declared.alphabet.state.LexState.{LexState}
 use Rattle.jx_lex.specs.declared.alphabet.state.LexState.TheVariants as state
+use Rattle.jx_lex.proofs.Keeping.{grows-then}
 use Rattle.jx_lex.specs.Lex.{lex, Track}
 use Rattle.jx_lex.specs.Seen.{Awaits, AwaitsAt, Seen, Grows, WantsNoMore}
 use Rattle.jx_lex.specs.TokenStates.{in_token}
@@ -125,6 +126,19 @@ module _ (old : Seen) (earlier : Known) where
                 subst (λ (zs : List ℕ). SeesPast old before earlier.depth earlier.reading (ms ++ m ∷ []) zs) (append-nil es)
                 (told_no_more old earlier.depth earlier.reading before ms (m ∷ []) es [] h.told then here);
           }
+
+    -- whole tokens that are passed at once, none of them a fault
+    pub past_passes : (more : List Mark) (others : List ℕ) (after : Seen) (new : Known) → new.depth ≡ k.depth → new.reading ≡ read_marks k.depth more k.reading
+        → Grows before after more others → (IsFault k.reading → ⊥) → (IsFault new.reading → ⊥) → HasSeenPast old earlier after (ms ++ more) (es ++ others) new
+    past_passes more others after new deep comes grows going sound =
+        let all = told_all old earlier.depth earlier.reading before ms es h.told (sound_so_far going) in
+        let is : new.reading ≡ read_marks earlier.depth (ms ++ more) earlier.reading =
+        comes ∙ ap (λ (d : ℕ). read_marks d more k.reading) h.depth ∙ ap (read_marks earlier.depth more) h.reading ∙ sym (read_more earlier.depth ms more earlier.reading) in
+        record {
+          depth = deep ∙ h.depth;
+          reading = is;
+          told = all_told old earlier.depth earlier.reading after (ms ++ more) (es ++ others) (λ s f. sound (subst IsFault (sym is) f)) (grows-then old before after ms more es others all grows);
+        }
 
     pub past_ends : (at : ℕ) (after : Seen) → ((marks : List Mark) (ends : List ℕ) → before marks ends → after marks (ends ++ at ∷ [])) → (IsFault k.reading → ⊥)
         → HasSeenPast old earlier after ms (es ++ at ∷ []) k

@@ -2,9 +2,10 @@
 use Rattle.std.proofs.Common.{◌≡◌, ℕ, List, [], ◌∷◌, ◌++◌, length, refl, sym, ◌∙◌, ap, subst, Bool, true, false, Some}
 use Rattle.std.proofs.lemmas.List.Sums.{fold-append}
 use Rattle.jx_lex.specs.declared.alphabet.mark.Mark.{Mark}
+use Rattle.jx_lex.specs.declared.alphabet.mark.MarkKind.{MarkKind}
 use Rattle.jx_lex.specs.declared.alphabet.mark.MarkKind.TheVariants as kind
 use Rattle.jx_lex.specs.declared.alphabet.state.LexState.{LexState}
-use Rattle.jx_lex.specs.Seen.{WantsNoMore}
+use Rattle.jx_lex.specs.Seen.{Grows, WantsNoMore, has_end}
 use Rattle.jx_reduce.specs.declared.table.expect.Expect.{Expect}
 use Rattle.jx_reduce.specs.declared.table.whole.Whole.{Whole}
 use Rattle.jx_reduce.specs.declared.table.whole.Whole.TheVariants as whole
@@ -23,37 +24,73 @@ use Rattle.jx_run.proofs.Tellings.{read_more}
 use Rattle.jx_saved.specs.declared.sum.Sum.{Sum}
 use Rattle.jx_saved.specs.Chunks.{expect_behind, has_some, state_behind}
 use Rattle.jx_saved.specs.Sums.{noted, nothing}
-use Rattle.jx_saved.specs.inside.Tallied.{HasTallied}
+use Rattle.jx_saved.specs.inside.Tallied.{HasTallied, Tells}
 
 some_more : {A : Type 0} (xs : List A) (x : A) → has_some (xs ++ x ∷ []) ≡ true
 some_more [] x = refl
 some_more (y ∷ ys) x = refl
 
+-- ---- what the marks and ends of a chunk come to
+
+module _ (ms : List Mark) (es : List ℕ) (s : Sum) (b n : Bool) (t : Tells ms es s b n) where
+  pub tells_mark : (m : Mark) (next : Sum) → next ≡ noted m.kind s → Tells (ms ++ m ∷ []) es next true n
+  tells_mark m next is = record {
+    sum_is = is ∙ ap (noted m.kind) t.sum_is ∙ sym (fold-append (λ s mark. noted mark.kind s) nothing ms (m ∷ []));
+    begins_is = sym (some_more ms m);
+    ends_is = t.ends_is;
+  }
+
+  pub tells_end : (at : ℕ) → Tells ms (es ++ at ∷ []) s b true
+  tells_end at = record { sum_is = t.sum_is; begins_is = t.begins_is; ends_is = sym (some_more es at) }
+
+-- the mark of a token changes no sum
+pub token_stays : (k : MarkKind) (s : Sum) → has_end k ≡ true → s ≡ noted k s
+token_stays kind.String s h = refl
+token_stays kind.Number s h = refl
+token_stays kind.True s h = refl
+token_stays kind.False s h = refl
+token_stays kind.Null s h = refl
+token_stays kind.OpenArray s h = absurd cc
+token_stays kind.OpenObject s h = absurd cc
+token_stays kind.CloseArray s h = absurd cc
+token_stays kind.CloseObject s h = absurd cc
+token_stays kind.Colon s h = absurd cc
+token_stays kind.Comma s h = absurd cc
+
+pub tells_token : (s : Sum) (b n : Bool) (m : Mark) (at : ℕ) → has_end m.kind ≡ true → Grows (λ ms es. Tells ms es s b n) (λ ms es. Tells ms es s true true) (m ∷ []) (at ∷ [])
+tells_token s b n m at token = λ ms es t. tells_end (ms ++ m ∷ []) es s true n (tells_mark ms es s b n t m s (token_stays m.kind s token)) at
+
+-- ---- behind an earlier stack
+
 pub tallied_new : (k : Known) → HasTallied k [] [] k nothing false false
 tallied_new k = record { depth = refl; reading = refl; told = λ going. record { sum_is = refl; begins_is = refl; ends_is = refl } }
 
 module _ (earlier : Known) (ms : List Mark) (es : List ℕ) (k : Known) (s : Sum) (b n : Bool) (h : HasTallied earlier ms es k s b n) where
-  pub tallied_mark : (m : Mark) (new : Known) (next : Sum) → new.depth ≡ k.depth → new.reading ≡ step k.depth m k.reading → next ≡ noted m.kind s
-      → HasTallied earlier (ms ++ m ∷ []) es new next true n
-  tallied_mark m new next deep steps is = record {
+  pub tallied_mark : (m : Mark) (new : Known) (next : Sum) (begins ended : Bool) → new.depth ≡ k.depth → new.reading ≡ step k.depth m k.reading
+      → ((marks : List Mark) (ends : List ℕ) → Tells marks ends s b n → Tells (marks ++ m ∷ []) ends next begins ended)
+      → HasTallied earlier (ms ++ m ∷ []) es new next begins ended
+  tallied_mark m new next begins ended deep steps tells = record {
     depth = deep ∙ h.depth;
     reading =
         steps ∙ ap (λ (d : ℕ). step d m k.reading) h.depth ∙ ap (step earlier.depth m) h.reading
         ∙ sym (read_more earlier.depth ms (m ∷ []) earlier.reading);
-    told = λ sound.
-        let t = h.told (no_fault_before k.depth m k.reading (λ f. sound (subst IsFault (sym steps) f))) in
-        record {
-          sum_is = is ∙ ap (noted m.kind) t.sum_is ∙ sym (fold-append (λ s mark. noted mark.kind s) nothing ms (m ∷ []));
-          begins_is = sym (some_more ms m);
-          ends_is = t.ends_is;
-        };
+    told = λ sound. tells ms es (h.told (no_fault_before k.depth m k.reading (λ f. sound (subst IsFault (sym steps) f))));
   }
 
-  pub tallied_end : (at : ℕ) → HasTallied earlier ms (es ++ at ∷ []) k s b true
-  tallied_end at = record {
-    depth = h.depth;
-    reading = h.reading;
-    told = λ sound. let t = h.told sound in record { sum_is = t.sum_is; begins_is = t.begins_is; ends_is = sym (some_more es at) };
+  pub tallied_end : (at : ℕ) (next : Sum) (begins ended : Bool) → ((marks : List Mark) (ends : List ℕ) → Tells marks ends s b n → Tells marks (ends ++ at ∷ []) next begins ended)
+      → HasTallied earlier ms (es ++ at ∷ []) k next begins ended
+  tallied_end at next begins ended tells = record { depth = h.depth; reading = h.reading; told = λ sound. tells ms es (h.told sound) }
+
+  -- whole tokens that are passed at once
+  pub tallied_pass : (more : List Mark) (others : List ℕ) (new : Known) (next : Sum) (begins ended : Bool) → new.depth ≡ k.depth → new.reading ≡ read_marks k.depth more k.reading
+      → Grows (λ marks ends. Tells marks ends s b n) (λ marks ends. Tells marks ends next begins ended) more others
+      → HasTallied earlier (ms ++ more) (es ++ others) new next begins ended
+  tallied_pass more others new next begins ended deep comes grows = record {
+    depth = deep ∙ h.depth;
+    reading =
+        comes ∙ ap (λ (d : ℕ). read_marks d more k.reading) h.depth ∙ ap (read_marks earlier.depth more) h.reading
+        ∙ sym (read_more earlier.depth ms more earlier.reading);
+    told = λ sound. grows ms es (h.told (λ f. sound (subst IsFault (sym comes) (subst IsFault (sym (read-fault k.depth more k.reading f)) f))));
   }
 
   -- behind a fault

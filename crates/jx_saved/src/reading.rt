@@ -93,9 +93,9 @@ fn tell_slice<E: Earlier>(
     Ok(Told {
         progress: settled(base, exit, tally.stack.whole()),
         stack: tally.stack,
-        sum: tally.sum,
-        begins: tally.begins,
-        ends: tally.ends,
+        sum: tally.chunk.sink.sum,
+        begins: tally.chunk.sink.begins,
+        ends: tally.chunk.sink.ends,
     })
 }
 

@@ -4,7 +4,7 @@ ghost use Rattle.jx_saved.specs.inside.Tallied.{HasTallied};
 
 use crate::sum::Sum;
 use jx_lex::{Mark, TokenSink};
-use jx_reduce::KnownStack;
+use jx_reduce::{KnownStack, Listener};
 use std::alloc::AllocError;
 use std::marker::{Brand, PhantomData};
 
@@ -21,43 +21,23 @@ impl Earlier for Brand {
     ghost stack = { record { depth = 0; reading = start } };
 }
 
-/// The known stack, the sum of the marks behind an earlier one, and whether there were marks and ends.
+/// The sum of the marks of a chunk, and whether there were marks and ends.
 #[derive(Drop)]
-pub struct Tally<E> {
-    pub stack: KnownStack,
+pub struct ChunkSum {
     pub sum: Sum,
     pub begins: bool,
     pub ends: bool,
-    earlier: PhantomData<E>,
 }
 
-impl<E: Earlier> Tally<E> {
-    /// Behind this stack no mark and no end was seen.
-    pub(crate) fn new(stack: KnownStack) -> Tally<E>
-        requires { stack ≡ E.stack }
-        ensures stack { result.stack ≡ stack }
-        ensures tallied { HasTallied E.stack [] [] result.stack result.sum result.begins result.ends }
-    {
-        Tally {
-            stack,
-            sum: Sum::new(),
-            begins: false,
-            ends: false,
-            earlier: PhantomData,
-        }
-    }
-}
+impl TokenSink for ChunkSum {
+    ghost use Rattle.jx_saved.specs.inside.Tallied.{Tells};
 
-impl<E: Earlier> TokenSink for Tally<E> {
-    ghost use Rattle.jx_saved.specs.inside.Tallied.{HasTallied};
-
-    ghost has_seen = { λ tally marks ends. HasTallied E.stack marks ends tally.stack tally.sum tally.begins tally.ends };
+    ghost has_seen = { λ chunk marks ends. Tells marks ends chunk.sum chunk.begins chunk.ends };
 
     ghost awaits = { λ _ _. Unit {0} };
 
     #[inline(always)]
     fn begin(&mut self, mark: Mark) -> Result<(), AllocError> {
-        self.stack.push(mark)?;
         let Some(sum) = self.sum.step(mark.kind) else {
             return Err(AllocError);
         };
@@ -72,8 +52,81 @@ impl<E: Earlier> TokenSink for Tally<E> {
         Ok(())
     }
 
+    fn is_done(&self) -> bool {
+        false
+    }
+
+    // No string, number or literal changes the sum.
+    #[inline(always)]
+    fn token(&mut self, _mark: Mark, _to: usize) -> Result<(), AllocError> {
+        self.begins = true;
+        self.ends = true;
+        Ok(())
+    }
+}
+
+/// The known stack, and the sum of the marks behind an earlier one.
+#[derive(Drop)]
+pub struct Tally<E> {
+    pub stack: KnownStack,
+    pub chunk: Listener<ChunkSum>,
+    earlier: PhantomData<E>,
+}
+
+impl<E: Earlier> Tally<E> {
+    /// Behind this stack no mark and no end was seen.
+    pub(crate) fn new(stack: KnownStack) -> Tally<E>
+        requires { stack ≡ E.stack }
+        ensures stack { result.stack ≡ stack }
+        ensures tallied { HasTallied E.stack [] [] result.stack result.chunk.sink.sum result.chunk.sink.begins result.chunk.sink.ends }
+    {
+        Tally {
+            stack,
+            chunk: Listener {
+                sink: ChunkSum {
+                    sum: Sum::new(),
+                    begins: false,
+                    ends: false,
+                },
+                has_failed: false,
+            },
+            earlier: PhantomData,
+        }
+    }
+}
+
+impl<E: Earlier> TokenSink for Tally<E> {
+    ghost use Rattle.jx_saved.specs.inside.Tallied.{HasTallied};
+
+    ghost has_seen = { λ tally marks ends. HasTallied E.stack marks ends tally.stack tally.chunk.sink.sum tally.chunk.sink.begins tally.chunk.sink.ends };
+
+    ghost awaits = { λ _ _. Unit {0} };
+
+    #[inline(always)]
+    fn begin(&mut self, mark: Mark) -> Result<(), AllocError> {
+        self.stack.push(mark)?;
+        self.chunk.sink.begin(mark)?;
+        Ok(())
+    }
+
+    #[inline(always)]
+    fn end(&mut self, at: usize) -> Result<(), AllocError> {
+        self.chunk.sink.end(at)?;
+        Ok(())
+    }
+
     #[inline(always)]
     fn is_done(&self) -> bool {
         self.stack.is_done()
+    }
+
+    #[inline(always)]
+    fn pass(&mut self, text: &[u8], from: usize, to: usize) -> Result<usize, AllocError> {
+        self.chunk.has_failed = false;
+        let end = self.stack.pass_into(text, from, to, &mut self.chunk);
+        if self.chunk.has_failed {
+            return Err(AllocError);
+        }
+        Ok(end)
     }
 }

@@ -13,6 +13,7 @@ use Rattle.jx_index.specs.inside.Building.{is_token}
 use Rattle.jx_string.specs.Texts.{string_units}
 use Rattle.jx_saved.specs.declared.sum.Sum.{Sum}
 use Rattle.jx_saved.specs.Sums.{noted, nothing, sum_of}
+use Rattle.jx_saved.proofs.Tallies.{token_stays}
 use Rattle.jx_name_tables.specs.Hash.{name_hash}
 use Rattle.jx_name_tables.specs.Names.{NamesOf, none, plain, token, ended, is_behind_name, kept, with_string}
 use Rattle.jx_saved_names.specs.inside.Chunk.{HasGathered, HoldsName, IsGatheredOf, Start}
@@ -192,6 +193,25 @@ module _ (start : Start) (marks : List Mark) (ends : List ℕ) (own : List ℕ) 
         behind_of : (a b : Bool) → (a && b) ≡ true → a ≡ true
         behind_of true b q = refl
         behind_of false b q = absurd cc
+
+-- a mark, and at once the end that belongs to it
+module _ (start : Start) (marks : List Mark) (ends : List ℕ) (own : List ℕ) (base : ℕ) (stack : Known) (sum : Sum) (begun : Option Mark) (name numbers : List ℕ)
+    (h : HasGathered start marks ends own base stack sum begun name numbers) (m : Mark) (at to : ℕ) (next : Known) (there : at ≡ base + m.at) (free : begun ≡ None) (deep : next.depth ≡ stack.depth)
+    (steps : next.reading ≡ step stack.depth (record { kind = m.kind; at = at }) stack.reading) (token : is_token m.kind ≡ true) (within : to ≤ length own) where
+  begins : HasGathered start (marks ++ m ∷ []) ends own base next sum (Some (record { kind = m.kind; at = at })) name numbers
+  begins = has_token start marks ends own base stack sum begun name numbers h m at next sum there free deep steps (token_stays m.kind sum token) token
+
+  pub whole_other : (left : List ℕ) → (is_behind_name next.reading && (sum.opened == 0)) ≡ false → HasGathered start (marks ++ m ∷ []) (ends ++ to ∷ []) own base next sum begun left numbers
+  whole_other left is =
+      subst (λ (o : Option Mark). HasGathered start (marks ++ m ∷ []) (ends ++ to ∷ []) own base next sum o left numbers) (sym free)
+      (has_other start (marks ++ m ∷ []) ends own base next sum (Some (record { kind = m.kind; at = at })) name numbers begins (record { kind = m.kind; at = at }) to refl within left is)
+
+  pub whole_name : (number : ℕ) (left all : List ℕ) → all ≡ numbers ++ number ∷ [] → (is_behind_name next.reading && (sum.opened == 0)) ≡ true
+      → ((before : List ℕ) → base ≡ length before → (at < base → name ≡ drop at before) → number ≡ name_hash (units_at (before ++ own) (span at (base + to))))
+      → HasGathered start (marks ++ m ∷ []) (ends ++ to ∷ []) own base next sum begun left all
+  whole_name number left all all_are is number_is =
+      subst (λ (o : Option Mark). HasGathered start (marks ++ m ∷ []) (ends ++ to ∷ []) own base next sum o left all) (sym free)
+      (has_name start (marks ++ m ∷ []) ends own base next sum (Some (record { kind = m.kind; at = at })) name numbers begins (record { kind = m.kind; at = at }) to refl within number left all all_are is number_is)
 
 -- no token yet
 pub has_none : (start : Start) (own : List ℕ) (base : ℕ) (stack : Known) (sum : Sum) (begun : Option Mark) (name numbers : List ℕ)

@@ -192,4 +192,19 @@ impl<'a, B: Before> TokenSink for OnChunk<'a, B> {
     fn is_done(&self) -> bool {
         false
     }
+
+    #[inline(always)]
+    fn token(&mut self, mark: Mark, to: usize) -> Result<(), AllocError> {
+        let kind = mark.kind;
+        let at = moved(self.base, mark.at)?;
+        self.stack.push(Mark { kind, at })?;
+        check_end(self.chunk, to)?;
+        if !is_kept(&self.stack, self.sum) {
+            return Ok(());
+        }
+        let name = token_bytes(&mut self.name, self.chunk, self.base, at, to, true)?;
+        let number = number_of_string(&mut self.units, name)?;
+        self.numbers.push(number)?;
+        Ok(())
+    }
 }

@@ -12,7 +12,7 @@ ghost use Rattle.jx_c.specs.Containers.{holders};
 ghost use Rattle.jx_c.specs.Stack.{code_of, stage_in, holders_of, known_of};
 
 use jx_lex::{Mark, MarkKind, TokenSink};
-use jx_reduce::{Expect, Holder, Whole, next};
+use jx_reduce::{Containers, Expect, Holder, Innermost, Whole, next, pass_tokens};
 use jx_run::{OpenStack, readings_go_on};
 use std::alloc::AllocError;
 
@@ -154,7 +154,7 @@ impl JxStack {
 
     /// The word in which the innermost container stands lowest.
     #[inline(always)]
-    fn inner(&self) -> u64
+    fn inner_word(&self) -> u64
         requires { 0 < self.now.count }
         ensures innermost { top (holders_of self.now) ≡ holder_of (result % 2) }
         ensures rest { holders (self.now.count - 1) (result / 2) self.now.words ≡ without_top (holders_of self.now) }
@@ -175,7 +175,7 @@ impl JxStack {
         if self.count == 0 {
             return Holder::Bottom;
         }
-        if self.inner() % 2 == 0 {
+        if self.inner_word() % 2 == 0 {
             Holder::Array
         } else {
             Holder::Object
@@ -204,7 +204,7 @@ impl JxStack {
         ensures holders { holders_of self.new ≡ without_top (holders_of self.old) }
     {
         if self.count > 0 {
-            self.bits = self.inner() / 2;
+            self.bits = self.inner_word() / 2;
             self.count -= 1;
         }
     }
@@ -262,11 +262,66 @@ impl JxStack {
 
     /// One more mark.
     #[inline(always)]
-    fn push(&mut self, mark: Mark)
+    fn take(&mut self, mark: Mark)
         ensures depth { self.new.depth ≡ self.old.depth }
         ensures marks { (before : List Mark) → HasRead before (known_of self.old) → HasRead (before ++ mark ∷ []) (known_of self.new) }
     {
         self.step(mark);
+    }
+}
+
+// The words stand in the struct, so nothing is allocated: `push` fails only where `count` is at its greatest number. The innermost
+// word is given where it is neither empty nor full.
+impl Containers for JxStack {
+    ghost list = { λ stack. holders_of stack };
+
+    #[inline(always)]
+    fn top(&self) -> Holder {
+        self.top()
+    }
+
+    #[inline(always)]
+    fn len(&self) -> usize {
+        self.open_count()
+    }
+
+    #[inline(always)]
+    fn push(&mut self, holder: Holder) -> Result<(), AllocError> {
+        if self.count == u16::MAX {
+            return Err(AllocError);
+        }
+        self.open(holder);
+        Ok(())
+    }
+
+    #[inline(always)]
+    fn pop(&mut self) {
+        self.close();
+    }
+
+    #[inline(always)]
+    fn inner(&self) -> Option<Innermost> {
+        let _ = self.words();
+        let used = self.count % 64;
+        if used == 0 {
+            return None;
+        }
+        Some(Innermost {
+            bits: self.bits & (u64::MAX >> (64 - used)),
+            count: used as usize,
+        })
+    }
+
+    #[inline(always)]
+    fn put_inner(&mut self, inner: Innermost) -> bool {
+        let _ = self.words();
+        let used = self.count % 64;
+        if used == 0 || inner.count >= 64 {
+            return false;
+        }
+        self.bits = inner.bits;
+        self.count = self.count - used + inner.count as u16;
+        true
     }
 }
 
@@ -277,7 +332,7 @@ impl TokenSink for JxStack {
 
     #[inline(always)]
     fn begin(&mut self, mark: Mark) -> Result<(), AllocError> {
-        self.push(mark);
+        self.take(mark);
         Ok(())
     }
 
@@ -290,6 +345,22 @@ impl TokenSink for JxStack {
     fn is_done(&self) -> bool {
         readings_go_on();
         self.is_faulty()
+    }
+
+    // Only numbers that C wrote have more containers open than the depth: no whole token is read over those.
+    #[inline(always)]
+    fn pass(&mut self, text: &[u8], from: usize, to: usize) -> Result<usize, AllocError> {
+        let Stage::Going(expect) = stage_of(self.stage) else {
+            return Ok(from);
+        };
+        let depth = self.depth;
+        if self.open_count() > depth as usize {
+            return Ok(from);
+        }
+        let (at, then) = pass_tokens(text, from, to, expect, self, depth as usize);
+        self.depth = depth;
+        self.stage = code_of(then);
+        Ok(at)
     }
 }
 

@@ -1,5 +1,5 @@
 // Part of a document, with what reading it comes to.
-ghost use Rattle.std.specs.Prelude.{◌≡◌, ◌≤◌, ◌<◌, IfOk, IfSome, length, true};
+ghost use Rattle.std.specs.Prelude.{◌≡◌, ◌≤◌, ◌<◌, IfOk, IfSome, length, take, true};
 ghost use Rattle.jx_edit.specs.inside.Chunks.{open_ended, text_of, AreFresh, IsFresh, IsRunOver};
 ghost use Rattle.jx_edit.specs.inside.Leads.{reading_in, IsLedWithin};
 ghost use Rattle.jx_edit.specs.inside.Places.{read_on};
@@ -10,6 +10,7 @@ use crate::chunking::filled::Filled;
 use crate::positions::encoding::Encoding;
 use crate::positions::moves::{Moves, kept_by};
 use crate::positions::position::{Position, behind};
+use crate::positions::steps::Steps;
 use crate::reading::led::{Led, follow_bytes, follow_run};
 use crate::reading::nesting::nest_deeply;
 use crate::reading::place::Place;
@@ -31,18 +32,20 @@ pub(crate) struct Chunk {
     linked: bool,
     // how far its bytes move a position on, where that was counted
     moves: Option<Moves>,
+    // the positions at even steps of them, where they were counted
+    steps: Option<Steps>,
 }
 
 impl Model for Chunk {
     ghost use Rattle.std.specs.Prelude.{◌≤◌, IfSome, length};
     ghost use Rattle.jx_edit.specs.inside.Chunks.{ChunkValue, IsRunOver};
-    ghost use Rattle.jx_edit.specs.inside.Moves.{AreMoves};
+    ghost use Rattle.jx_edit.specs.inside.Moves.{AreMoves, AreSteps};
 
     ghost Value = { ChunkValue };
 
     ghost view = { λ c. record { depth = c.depth; bytes = c.bytes.items; to = c.to; linked = c.linked } };
 
-    ghost invariant = { λ c. IfSome c.run (IsRunOver c.depth c.bytes.items) × (length c.to.holders ≤ c.depth) × IfSome c.moves (AreMoves c.bytes.items) };
+    ghost invariant = { λ c. IfSome c.run (IsRunOver c.depth c.bytes.items) × (length c.to.holders ≤ c.depth) × IfSome c.moves (AreMoves c.bytes.items) × IfSome c.steps (AreSteps c.bytes.items) };
 }
 
 /// The run over bytes, with no spare room.
@@ -85,6 +88,7 @@ impl Chunk {
             to: Place::origin(alloc),
             linked: false,
             moves: None,
+            steps: None,
         })
     }
 
@@ -105,12 +109,26 @@ impl Chunk {
         }
     }
 
-    /// Counts that position by one encoding, and keeps it.
-    pub(crate) fn count(&mut self, encoding: Encoding)
+    /// The position behind so many of its bytes where a text begins with them.
+    pub(crate) fn position_behind(&self, at: usize, encoding: Encoding) -> Position
+        requires { at ≤ length self.now.bytes }
+        ensures { result ≡ position_behind encoding first (take at self.now.bytes) }
+    {
+        match &self.steps {
+            Some(steps) if steps.encoding == encoding => steps.position_behind(&self.bytes, at),
+            _ => behind(&self.bytes[..at], encoding),
+        }
+    }
+
+    /// Counts its positions by one encoding, and keeps the last one and those at even steps.
+    pub(crate) fn count(&mut self, encoding: Encoding) -> Result<(), AllocError>
         ensures { self.new ≡ self.old }
     {
-        let position = behind(&self.bytes, encoding);
+        let steps = Steps::of(*self.bytes.allocator(), &self.bytes, encoding)?;
+        let position = steps.position_behind(&self.bytes, self.bytes.len());
         self.moves = Some(Moves { encoding, position });
+        self.steps = Some(steps);
+        Ok(())
     }
 
     /// The place that it keeps.
@@ -180,15 +198,16 @@ pub(crate) fn text_of(alloc: Global, chunks: &[Chunk]) -> Result<Vec<u8>, AllocE
 }
 
 /// Counts each of the chunks by one encoding, if any.
-pub(crate) fn count_all(chunks: &mut [Chunk], counted: Option<Encoding>)
+pub(crate) fn count_all(chunks: &mut [Chunk], counted: Option<Encoding>) -> Result<(), AllocError>
     ensures { chunks.new ≡ chunks.old }
 {
     let Some(encoding) = counted else {
-        return;
+        return Ok(());
     };
     for chunk in chunks.iter_mut() {
-        chunk.count(encoding);
+        chunk.count(encoding)?;
     }
+    Ok(())
 }
 
 /// The chunks of these bytes, none of them longer than `size`.

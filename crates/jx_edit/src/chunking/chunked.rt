@@ -71,7 +71,7 @@ impl Chunked {
     {
         let piece = piece_for(bytes.len(), SIZE);
         let mut chunks = chunks_of(alloc, bytes, piece, depth)?;
-        count_all(&mut chunks, counted);
+        count_all(&mut chunks, counted)?;
         let sums = sums_of(alloc, &chunks, counted)?;
         Ok(Chunked {
             alloc,
@@ -207,7 +207,7 @@ impl Chunked {
             SIZE,
             self.depth,
         )?;
-        count_all(&mut patch.chunks, self.counted);
+        count_all(&mut patch.chunks, self.counted)?;
         put(
             &mut self.chunks,
             &mut self.sums,

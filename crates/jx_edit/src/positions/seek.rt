@@ -5,7 +5,7 @@ ghost use Rattle.jx_edit.specs.Positions.{position_behind, reach};
 
 use crate::chunking::chunk::Chunk;
 use crate::positions::encoding::Encoding;
-use crate::positions::position::{Position, Reached, behind, reach};
+use crate::positions::position::{Position, Reached, reach};
 
 /// The position behind so many bytes of chunks of which the first stands at one, or behind all of them.
 pub(crate) fn position_in(
@@ -25,7 +25,7 @@ pub(crate) fn position_in(
         let bytes = chunk.bytes();
         let here = at - before;
         if here <= bytes.len() {
-            return position.joined(behind(&bytes[..here], encoding));
+            return position.joined(chunk.position_behind(here, encoding));
         }
         position = position.joined(chunk.moves(encoding));
         before += bytes.len();

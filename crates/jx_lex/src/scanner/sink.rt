@@ -1,9 +1,9 @@
 // What is kept of the tokens that a scan finds.
-ghost use Rattle.std.specs.Prelude.{◌++◌, ◌∷◌, ◌≤◌, [], ℕ, Bool, List, OnOk, IsTrue, false, length, slice_range, true};
+ghost use Rattle.std.specs.Prelude.{◌≡◌, ◌++◌, ◌∷◌, ◌≤◌, [], ℕ, Bool, List, IfOk, OnOk, IsTrue, false, length, slice_range, true};
 ghost use Rattle.jx_lex.specs.declared.alphabet.mark.Mark.{Mark};
 ghost use Rattle.jx_lex.specs.declared.alphabet.state.LexState.TheVariants.{Gap};
 ghost use Rattle.jx_lex.specs.Lex.{lex};
-ghost use Rattle.jx_lex.specs.Seen.{GoesTo, WantsNoMore, has_end};
+ghost use Rattle.jx_lex.specs.Seen.{GoesTo, Grows, WantsNoMore, has_end};
 
 use crate::alphabet::mark::Mark;
 use std::alloc::AllocError;
@@ -36,16 +36,42 @@ pub trait TokenSink {
     fn is_done(&self) -> bool
         ensures { IsTrue result → WantsNoMore (has_seen self.now) };
 
-    /// Reads whole tokens by itself, from between tokens on, as many as it likes. Gives the offset behind them, which is
-    /// between tokens too. A sink that leaves it as it is reads none.
+    /// A whole string, number or literal: its mark, and the offset just past its last byte. Where memory is refused, the sink is of
+    /// no more use. A sink that leaves it as it is takes the mark and then the end.
     #[inline(always)]
-    fn pass(&mut self, text: &[u8], from: usize, to: usize) -> usize
+    fn token(&mut self, mark: Mark, to: usize) -> Result<(), AllocError>
+        requires kind { has_end mark.kind ≡ true }
+        requires turn { awaits self.old false }
+        ensures seen { OnOk result (Grows (has_seen self.old) (has_seen self.new) (mark ∷ []) (to ∷ [])) }
+        ensures turn { OnOk result (awaits self.new false) }
+    {
+        self.begin(mark)?;
+        self.end(to)?;
+        Ok(())
+    }
+
+    /// The whole name of a member, which the place in the text shows. A sink that leaves it as it is takes it as any token.
+    #[inline(always)]
+    fn named(&mut self, mark: Mark, to: usize) -> Result<(), AllocError>
+        requires kind { has_end mark.kind ≡ true }
+        requires turn { awaits self.old false }
+        ensures seen { OnOk result (Grows (has_seen self.old) (has_seen self.new) (mark ∷ []) (to ∷ [])) }
+        ensures turn { OnOk result (awaits self.new false) }
+    {
+        self.token(mark, to)?;
+        Ok(())
+    }
+
+    /// Reads whole tokens by itself, from between tokens on, as many as it likes. Returns the offset behind them, which is
+    /// between tokens too. Where memory is refused, the sink is of no more use. A sink that leaves it as it is reads none.
+    #[inline(always)]
+    fn pass(&mut self, text: &[u8], from: usize, to: usize) -> Result<usize, AllocError>
         requires bounds { (from ≤ to) × (to ≤ length text.now) }
         requires turn { awaits self.old false }
-        ensures bounds { (from ≤ result) × (result ≤ to) }
-        ensures read { GoesTo (has_seen self.old) (has_seen self.new) (lex Gap from (slice_range text.now from result)) Gap }
-        ensures turn { awaits self.new false }
+        ensures bounds { IfOk result (λ end. (from ≤ end) × (end ≤ to)) }
+        ensures read { IfOk result (λ end. GoesTo (has_seen self.old) (has_seen self.new) (lex Gap from (slice_range text.now from end)) Gap) }
+        ensures turn { OnOk result (awaits self.new false) }
     {
-        from
+        Ok(from)
     }
 }

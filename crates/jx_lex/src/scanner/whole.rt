@@ -18,7 +18,7 @@ use crate::scanner::token_rest::{literal_end, number_rest};
 pub fn pass_blanks(text: &[u8], from: usize, to: usize) -> usize
     requires { (from < to) × (from + 2 ≤ length text.now) × (to ≤ length text.now) }
     ensures bounds { (from ≤ result) × (result ≤ to) }
-    ensures passes { Passes text.now from result [] }
+    ensures passes { Passes text.now from result [] [] }
 {
     if text[from] > b' ' {
         return from;
@@ -38,7 +38,7 @@ fn pass_long_string(text: &[u8], from: usize, first: usize, to: usize, ahead: &m
     requires kept { AllKeep state.Str (slice_range text.now (from + 1) first) }
     requires sound { IsSound text.now ahead.old }
     ensures bounds { (from ≤ result) × (result ≤ to) }
-    ensures passes { from < result → Passes text.now from result (record { kind = mark.String; at = from } ∷ []) }
+    ensures passes { from < result → Passes text.now from result (record { kind = mark.String; at = from } ∷ []) (result ∷ []) }
     ensures sound { IsSound text.now ahead.new }
 {
     let (end, known) = chars_end(text, first, to, *ahead);
@@ -72,7 +72,7 @@ pub fn pass_string(text: &[u8], from: usize, to: usize, ahead: &mut Ahead) -> us
     requires quote { slice_index text.now from ≡ 0x22 }
     requires sound { IsSound text.now ahead.old }
     ensures bounds { (from ≤ result) × (result ≤ to) }
-    ensures passes { from < result → Passes text.now from result (record { kind = mark.String; at = from } ∷ []) }
+    ensures passes { from < result → Passes text.now from result (record { kind = mark.String; at = from } ∷ []) (result ∷ []) }
     ensures sound { IsSound text.now ahead.new }
 {
     let first = plain_end(text, from + 1, to);

@@ -1,11 +1,10 @@
 -- What may stand next before each byte of a block, as words of bits, and how the tokens of the block change it.
-use Rattle.std.specs.Prelude.{◌≡◌, ◌<◌, ◌≤◌, ◌^◌, ℕ, zero, suc, Bool, true, false, not, ◌&&◌, ◌||◌, List, ◌∷◌, length}
+use Rattle.std.specs.Prelude.{◌≡◌, ◌<◌, ℕ, zero, suc, Bool, true, false, not, ◌&&◌, ◌||◌, List, ◌∷◌, length}
 use Rattle.jx_block.specs.Listed.{is_set}
 use Rattle.jx_block.specs.declared.kinds.TokenKinds.{TokenKinds}
 use Rattle.jx_reduce.specs.Read.{top, without_top}
 use Rattle.jx_reduce.specs.declared.table.expect.Expect.{Expect}
 use Rattle.jx_reduce.specs.declared.table.expect.Expect.TheVariants.{Value, ArrayFirst, ObjectFirst, Name, Colon, After}
-use Rattle.jx_reduce.specs.declared.stack.bracket_walk.Innermost.{Innermost}
 use Rattle.jx_reduce.specs.declared.table.holder.Holder.{Holder}
 use Rattle.jx_reduce.specs.declared.table.holder.Holder.TheVariants.{Array, Object}
 
@@ -54,12 +53,6 @@ pub data Steps (kinds : TokenKinds) (object : ℕ → Bool) (most k : ℕ) (old 
 abbrev pub Walks : TokenKinds → (ℕ → Bool) → (most : ℕ) → (old : List Holder) → (n : ℕ) → (new : List Holder) → Type 0
 Walks kinds object most old zero new = new ≡ old
 Walks kinds object most old (suc k) new = (before : List Holder) × Walks kinds object most old k before × Steps kinds object most k before new
-
--- at least one container in a word, at most 64
-pub record IsInner (inner : Innermost) : Type 0 where
-  pub some : 0 < inner.count
-  pub count : inner.count ≤ 64
-  pub bits : inner.bits < 2 ^ inner.count
 
 -- words for what may stand next lead through the first bytes of a block
 pub record LeadsBy (kinds : TokenKinds) (starts : ℕ) (object : ℕ → Bool) (len : ℕ) (expect then : Expect) : Type 0 where

@@ -1,12 +1,17 @@
 // Whole tokens, read by blocks of 64 bytes.
-ghost use Rattle.std.specs.Prelude.{◌≡◌, ◌+◌, ◌<◌, ◌≤◌, ◌^◌, IfSome, IsNone, length};
-ghost use Rattle.jx_reduce.specs.Read.{went};
+ghost use Rattle.std.specs.Prelude.{◌≡◌, ◌+◌, ◌<◌, ◌≤◌, ◌^◌, ℕ, List, IfSome, IsNone, length, slice_range};
+ghost use Rattle.jx_block.specs.Kinds.{AreKinds};
+ghost use Rattle.jx_block.specs.Listed.{marks_of};
+ghost use Rattle.jx_reduce.specs.Read.{read, went};
 ghost use Rattle.jx_reduce.specs.inside.Passed.{Reads, TakesValue};
 
-use crate::stack::open_containers::OpenContainers;
+use crate::stack::bracket_walk::walk;
+use crate::stack::containers::Containers;
+use crate::stack::next_words::next_behind;
+use crate::stack::watch::Nothing;
 use crate::stack::whole_tokens::{rounds, takes_value};
 use crate::table::expect::Expect;
-use jx_block::{kinds_of, read_tokens};
+use jx_block::{TokenKinds, kinds_of, read_tokens};
 use std::simd::prelude::*;
 
 /// How many bytes a block has.
@@ -33,27 +38,55 @@ struct Passed {
     then: Expect,
 }
 
+/// Reads the tokens that begin in the first bytes of a block, from what may stand next before them. Gives what may stand next
+/// behind them. It gives nothing, and changes nothing, where one of them may not stand where it does, and where no container is
+/// open, or the innermost word of them would run full or empty.
+#[inline(always)]
+fn follow<H: Containers>(
+    kinds: &TokenKinds,
+    starts: u64,
+    len: usize,
+    expect: Expect,
+    holders: &mut H,
+    most: usize,
+) -> Option<Expect>
+    requires within { (length (H.list holders.old) ≤ most) × (most < 2 ^ 32) }
+    requires few { (len < 64) × (starts < 2 ^ len) }
+    ensures reads { IfSome result (λ then. (text : List ℕ) (at : ℕ) → at + 64 ≤ length text → AreKinds text at starts kinds.now → read most (marks_of starts 0 at (slice_range text at (at + len))) (went expect (H.list holders.old)) ≡ went then (H.list holders.new)) }
+    ensures none { IsNone result → H.list holders.new ≡ H.list holders.old }
+{
+    let inner = holders.inner()?;
+    let around = holders.len() - inner.count;
+    let walked = walk(kinds, inner, most - around)?;
+    let then = next_behind(kinds, starts, walked.objects, len, expect)?;
+    if holders.put_inner(walked.inner) {
+        Some(then)
+    } else {
+        None
+    }
+}
+
 /// Reads the tokens of one block, where all of them stand where they may. Otherwise it changes nothing.
 #[inline(always)]
-fn block(
+fn block<H: Containers>(
     text: &[u8],
     at: usize,
     expect: Expect,
-    holders: &mut OpenContainers,
+    holders: &mut H,
     most: usize,
 ) -> Option<Passed>
     requires bounds { at ≤ length text.now }
-    requires within { (length holders.old ≤ most) × (most < 2 ^ 32) }
+    requires within { (length (H.list holders.old) ≤ most) × (most < 2 ^ 32) }
     ensures bounds { IfSome result (λ r. r.len < 64) }
-    ensures reads { IfSome result (λ r. Reads most text.now at (at + r.len) (went expect holders.old) (went r.then holders.new)) }
-    ensures none { IsNone result → holders.new ≡ holders.old }
+    ensures reads { IfSome result (λ r. Reads most text.now at (at + r.len) (went expect (H.list holders.old)) (went r.then (H.list holders.new))) }
+    ensures none { IsNone result → H.list holders.new ≡ H.list holders.old }
 {
     if text.len() - at < BLOCK {
         return None;
     }
     let masks = read_tokens(text, at)?;
     let kinds = kinds_of(text, at, masks.starts)?;
-    let then = holders.follow(&kinds, masks.starts, masks.len, expect, most)?;
+    let then = follow(&kinds, masks.starts, masks.len, expect, holders, most)?;
     Some(Passed {
         len: masks.len,
         tokens: (masks.starts & !kinds.scalars).count_ones(),
@@ -64,18 +97,18 @@ fn block(
 /// Reads whole tokens by blocks, as long as tokens stand close together. Gives the offset behind them, and what may stand next
 /// there.
 #[inline(never)]
-pub(crate) fn blocks(
+pub(crate) fn blocks<H: Containers>(
     text: &[u8],
     from: usize,
     to: usize,
     expect: Expect,
-    holders: &mut OpenContainers,
+    holders: &mut H,
     most: usize,
 ) -> (usize, Expect)
     requires bounds { (from ≤ to) × (to ≤ length text.now) }
-    requires within { (length holders.old ≤ most) × (most < 2 ^ 32) }
+    requires within { (length (H.list holders.old) ≤ most) × (most < 2 ^ 32) }
     ensures bounds { (from ≤ result.0) × (result.0 ≤ to) }
-    ensures reads { Reads most text.now from result.0 (went expect holders.old) (went result.1 holders.new) }
+    ensures reads { Reads most text.now from result.0 (went expect (H.list holders.old)) (went result.1 (H.list holders.new)) }
 {
     let mut at = from;
     let mut expect = expect;
@@ -112,18 +145,18 @@ fn are_close(text: &[u8], at: usize) -> bool
 
 /// Reads by blocks, where tokens seem to stand close together.
 #[inline(always)]
-fn blocks_where_close(
+fn blocks_where_close<H: Containers>(
     text: &[u8],
     from: usize,
     to: usize,
     expect: Expect,
-    holders: &mut OpenContainers,
+    holders: &mut H,
     most: usize,
 ) -> (usize, Expect)
     requires bounds { (from ≤ to) × (to ≤ length text.now) }
-    requires within { (length holders.old ≤ most) × (most < 2 ^ 32) }
+    requires within { (length (H.list holders.old) ≤ most) × (most < 2 ^ 32) }
     ensures bounds { (from ≤ result.0) × (result.0 ≤ to) }
-    ensures reads { Reads most text.now from result.0 (went expect holders.old) (went result.1 holders.new) }
+    ensures reads { Reads most text.now from result.0 (went expect (H.list holders.old)) (went result.1 (H.list holders.new)) }
 {
     if to - from < BLOCK || !are_close(text, from) {
         return (from, expect);
@@ -147,20 +180,20 @@ fn stretch_end(from: usize, to: usize) -> usize
 /// Reads whole tokens from a place where a value stands next: by blocks where tokens stand close together, and otherwise one by
 /// one. Gives the offset behind them, and what may stand next there.
 #[inline(always)]
-pub(crate) fn stretches(
+pub(crate) fn stretches<H: Containers>(
     text: &[u8],
     from: usize,
     to: usize,
     expect: Expect,
-    holders: &mut OpenContainers,
+    holders: &mut H,
     most: usize,
 ) -> (usize, Expect)
     requires bounds { (from ≤ to) × (to ≤ length text.now) }
     requires room { 32 ≤ length text.now }
     requires takes { TakesValue expect }
-    requires within { (length holders.old ≤ most) × (most < 2 ^ 32) }
+    requires within { (length (H.list holders.old) ≤ most) × (most < 2 ^ 32) }
     ensures bounds { (from ≤ result.0) × (result.0 ≤ to) }
-    ensures reads { Reads most text.now from result.0 (went expect holders.old) (went result.1 holders.new) }
+    ensures reads { Reads most text.now from result.0 (went expect (H.list holders.old)) (went result.1 (H.list holders.new)) }
 {
     let mut at = from;
     let mut expect = expect;
@@ -170,7 +203,7 @@ pub(crate) fn stretches(
             return (begin, next);
         }
         let end = stretch_end(begin, to);
-        let (behind, next) = rounds(text, begin, end, next, holders, most);
+        let (behind, next) = rounds(text, begin, end, next, holders, most, &mut Nothing);
         if end == to || end - behind >= BLOCK || !takes_value(next) {
             return (behind, next);
         }

@@ -2,22 +2,17 @@
 ghost use Rattle.std.specs.Prelude.{◌≡◌, ◌+◌, ◌<◌, ◌≤◌, ◌||◌, ◌++◌, ◌∷◌, ℕ, Bool, List, IfSome, false, length, true};
 ghost use Rattle.jx_lex.specs.inside.Bits.{bit};
 ghost use Rattle.jx_reduce.specs.Bits.{holder_of, in_word};
+ghost use Rattle.jx_reduce.specs.Containers.{IsInner};
 ghost use Rattle.jx_reduce.specs.Read.{top, without_top};
 ghost use Rattle.jx_reduce.specs.declared.table.holder.Holder.{Holder};
-ghost use Rattle.jx_reduce.specs.inside.Blocks.{container, IsInner, Steps, Walks};
+ghost use Rattle.jx_reduce.specs.inside.Blocks.{container, Steps, Walks};
 
+use crate::stack::containers::Innermost;
 use crate::stack::next_words::is_bit;
 use jx_block::TokenKinds;
 
 /// How many containers a word holds.
 const WORD: usize = 64;
-
-/// The innermost open containers, at least one and at most 64: an array is a bit 0, an object a bit 1, the innermost lowest.
-#[derive(Clone, Copy)]
-pub(crate) struct Innermost {
-    pub bits: u64,
-    pub count: usize,
-}
 
 /// What the brackets of a block come to.
 #[derive(Clone, Copy)]

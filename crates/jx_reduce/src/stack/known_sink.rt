@@ -28,7 +28,7 @@ impl TokenSink for KnownStack {
     }
 
     #[inline(always)]
-    fn pass(&mut self, text: &[u8], from: usize, to: usize) -> usize {
-        self.pass(text, from, to)
+    fn pass(&mut self, text: &[u8], from: usize, to: usize) -> Result<usize, AllocError> {
+        Ok(self.pass(text, from, to))
     }
 }

@@ -1,6 +1,6 @@
 // The moves over marks from the start of a text.
 
-ghost use Rattle.std.specs.Prelude.{◌≡◌, ◌↔◌, ◌++◌, ◌+◌, ◌<◌, ◌≤◌, List, [], ◌∷◌, IsTrue, OnOk, OnErr, IfOk, length, reverse, slice_range};
+ghost use Rattle.std.specs.Prelude.{◌≡◌, ◌↔◌, ◌++◌, ◌+◌, ◌<◌, ◌≤◌, List, [], ◌∷◌, IsTrue, OnOk, OnErr, IfOk, false, length, reverse, slice_range};
 ghost use Rattle.jx_reduce.specs.Table.{added};
 ghost use Rattle.jx_reduce.specs.Read.{changed, then_by, step, read, went};
 ghost use Rattle.jx_reduce.specs.Whole.{whole_of};
@@ -9,15 +9,18 @@ ghost use Rattle.jx_lex.specs.declared.alphabet.mark.Mark.{Mark};
 ghost use Rattle.jx_lex.specs.declared.alphabet.state.LexState.TheVariants.{Gap};
 ghost use Rattle.jx_lex.specs.Lex.{lex};
 ghost use Rattle.jx_lex.specs.Lex as exits;
+ghost use Rattle.jx_lex.specs.Seen.{SeesTrack};
 
-use crate::stack::blocks::stretches;
+use crate::stack::containers::Containers;
 use crate::stack::open_containers::OpenContainers;
-use crate::stack::whole_tokens::{ROOM, takes_value};
+use crate::stack::pass::{may_pass, pass_tokens};
+use crate::stack::watch::Listener;
+use crate::stack::whole_tokens::rounds;
 use crate::table::expect::Expect;
 use crate::table::holder::Holder;
 use crate::table::moves::next;
 use crate::table::whole::Whole;
-use jx_lex::{Depth, Mark, MarkKind};
+use jx_lex::{Depth, Mark, MarkKind, TokenSink};
 use std::alloc::{AllocError, Global};
 use std::marker::Model;
 
@@ -35,23 +38,6 @@ pub struct KnownStack {
     expect: Expect,
     open: OpenContainers,
     fault: Option<Fault>,
-}
-
-/// How many bytes must be left for `pass` to look at them.
-const LEAST: usize = 8;
-
-/// Whether a number begins with the byte (RFC 8259, section 6).
-#[inline(always)]
-fn begins_number(byte: u8) -> bool {
-    byte == b'-' || (byte >= b'0' && byte <= b'9')
-}
-
-/// Whether a list of numbers may begin or go on here.
-#[inline(always)]
-fn begins_list(text: &[u8], at: usize) -> bool
-    requires { at + 1 < length text.now }
-{
-    begins_number(text[at]) || (text[at] == b'[' && begins_number(text[at + 1]))
 }
 
 impl Model for KnownStack {
@@ -229,14 +215,41 @@ impl KnownStack {
         ensures reads { self.new.reading ≡ read self.old.depth (lex Gap from (slice_range text.now from result)).marks self.old.reading }
         ensures marks { (before : List Mark) → HasRead before self.old → HasRead (before ++ (lex Gap from (slice_range text.now from result)).marks) self.new }
     {
-        if to - from < LEAST || text.len() - from < ROOM || begins_list(text, from) {
-            return from;
-        }
-        if self.fault.is_some() || !takes_value(self.expect) {
+        if self.fault.is_some() {
             return from;
         }
         let most = self.depth.containers() as usize;
-        let (at, expect) = stretches(text, from, to, self.expect, &mut self.open, most);
+        let (at, expect) = pass_tokens(text, from, to, self.expect, &mut self.open, most);
+        self.expect = expect;
+        at
+    }
+
+    /// Reads whole tokens as `pass` does, and hands each to a sink in one call. Once the sink has failed, it takes nothing more.
+    #[inline(always)]
+    pub fn pass_into<K: TokenSink + Drop>(
+        &mut self,
+        text: &[u8],
+        from: usize,
+        to: usize,
+        listener: &mut Listener<K>,
+    ) -> usize
+        requires bounds { (from ≤ to) × (to ≤ length text.now) }
+        requires fresh { listener.old.has_failed ≡ false }
+        requires turn { K.awaits listener.old.sink false }
+        ensures bounds { (from ≤ result) × (result ≤ to) }
+        ensures depth { self.new.depth ≡ self.old.depth }
+        ensures exit { (lex Gap from (slice_range text.now from result)).exit ≡ exits.state Gap }
+        ensures reads { self.new.reading ≡ read self.old.depth (lex Gap from (slice_range text.now from result)).marks self.old.reading }
+        ensures marks { (before : List Mark) → HasRead before self.old → HasRead (before ++ (lex Gap from (slice_range text.now from result)).marks) self.new }
+        ensures going { (IsFault self.old.reading → ⊥) → IsFault self.new.reading → ⊥ }
+        ensures seen { listener.new.has_failed ≡ false → SeesTrack (K.has_seen listener.old.sink) (K.has_seen listener.new.sink) (lex Gap from (slice_range text.now from result)) }
+        ensures turn { listener.new.has_failed ≡ false → K.awaits listener.new.sink false }
+    {
+        if self.fault.is_some() || !may_pass(text, from, to, self.expect) {
+            return from;
+        }
+        let most = self.depth.containers() as usize;
+        let (at, expect) = rounds(text, from, to, self.expect, &mut self.open, most, listener);
         self.expect = expect;
         at
     }

@@ -1,16 +1,10 @@
 // Open containers, one bit each.
 
-ghost use Rattle.std.specs.Prelude.{◌≡◌, ◌+◌, ◌<◌, ◌≤◌, ◌^◌, ◌++◌, ℕ, List, [], ◌∷◌, OnOk, OnErr, IfOk, IfSome, IsNone, length, reverse, slice_range};
-ghost use Rattle.jx_block.specs.Kinds.{AreKinds};
-ghost use Rattle.jx_block.specs.Listed.{marks_of};
-ghost use Rattle.jx_reduce.specs.Read.{read, top, went, without_top};
+ghost use Rattle.std.specs.Prelude.{◌≡◌, ◌+◌, ◌<◌, ◌≤◌, ◌^◌, ◌++◌, [], ◌∷◌, OnOk, OnErr, IfOk, length, reverse};
 ghost use Rattle.jx_reduce.specs.Bits.{holder_of};
 
-use crate::stack::bracket_walk::{Innermost, walk};
-use crate::stack::next_words::next_behind;
-use crate::table::expect::Expect;
+use crate::stack::containers::{Containers, Innermost};
 use crate::table::holder::Holder;
-use jx_block::TokenKinds;
 use std::alloc::{AllocError, Global};
 use std::marker::Model;
 
@@ -65,23 +59,11 @@ fn push_word(words: &mut Vec<u64>, word: u64) -> Result<(), AllocError>
     Ok(())
 }
 
-impl OpenContainers {
-    /// Nothing is open. It takes no memory.
-    pub fn new(alloc: Global) -> OpenContainers
-        ensures { result ≡ [] }
-    {
-        OpenContainers {
-            bits: 0,
-            count: 0,
-            words: Vec::new(alloc),
-        }
-    }
+impl Containers for OpenContainers {
+    ghost list = { λ stack. stack };
 
-    /// The innermost container.
     #[inline(always)]
-    pub fn top(&self) -> Holder
-        ensures { result ≡ top self.now }
-    {
+    fn top(&self) -> Holder {
         if self.count == 0 {
             Holder::Bottom
         } else if self.bits % 2 == 0 {
@@ -91,22 +73,13 @@ impl OpenContainers {
         }
     }
 
-    /// How many containers are open.
     #[inline(always)]
-    pub fn len(&self) -> usize
-        requires { length self.now < 2 ^ 32 }
-        ensures { result ≡ length self.now }
-    {
+    fn len(&self) -> usize {
         self.words.len() * WORD + self.count
     }
 
-    /// Opens one more container. Where memory is refused nothing changes.
     #[inline(always)]
-    pub fn push(&mut self, holder: Holder) -> Result<(), AllocError>
-        requires { holder ≡ Holder.Bottom → ⊥ }
-        ensures ok { OnOk result (self.new ≡ holder ∷ self.old) }
-        ensures err { OnErr result (self.new ≡ self.old) }
-    {
+    fn push(&mut self, holder: Holder) -> Result<(), AllocError> {
         let bit = bit_of(holder);
         if self.count < WORD {
             self.bits = self.bits * 2 + bit;
@@ -120,11 +93,8 @@ impl OpenContainers {
         }
     }
 
-    /// Closes the innermost container, if one is open.
     #[inline(always)]
-    pub fn pop(&mut self)
-        ensures { self.new ≡ without_top self.old }
-    {
+    fn pop(&mut self) {
         if self.count > 1 {
             self.bits /= 2;
             self.count -= 1;
@@ -142,35 +112,35 @@ impl OpenContainers {
         }
     }
 
-    /// Reads the tokens that begin in the first bytes of a block, from what may stand next before them, and gives what may stand
-    /// next behind them. It gives nothing, and changes nothing, where one of them may not stand where it does, and where no
-    /// container is open, or the innermost word of them would run full or empty.
     #[inline(always)]
-    pub fn follow(
-        &mut self,
-        kinds: &TokenKinds,
-        starts: u64,
-        len: usize,
-        expect: Expect,
-        most: usize,
-    ) -> Option<Expect>
-        requires within { (length self.old ≤ most) × (most < 2 ^ 32) }
-        requires few { (len < 64) × (starts < 2 ^ len) }
-        ensures reads { IfSome result (λ then. (text : List ℕ) (at : ℕ) → at + 64 ≤ length text → AreKinds text at starts kinds.now → read most (marks_of starts 0 at (slice_range text at (at + len))) (went expect self.old) ≡ went then self.new) }
-        ensures none { IsNone result → self.new ≡ self.old }
-    {
+    fn inner(&self) -> Option<Innermost> {
         if self.count == 0 {
             return None;
         }
-        let inner = Innermost {
+        Some(Innermost {
             bits: self.bits,
             count: self.count,
-        };
-        let walked = walk(kinds, inner, most - self.words.len() * WORD)?;
-        let then = next_behind(kinds, starts, walked.objects, len, expect)?;
-        self.bits = walked.inner.bits;
-        self.count = walked.inner.count;
-        Some(then)
+        })
+    }
+
+    #[inline(always)]
+    fn put_inner(&mut self, inner: Innermost) -> bool {
+        self.bits = inner.bits;
+        self.count = inner.count;
+        true
+    }
+}
+
+impl OpenContainers {
+    /// Nothing is open. It takes no memory.
+    pub fn new(alloc: Global) -> OpenContainers
+        ensures { result ≡ [] }
+    {
+        OpenContainers {
+            bits: 0,
+            count: 0,
+            words: Vec::new(alloc),
+        }
     }
 
     /// Closes all containers, and lists them outermost first.

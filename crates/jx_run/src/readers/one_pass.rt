@@ -11,39 +11,49 @@ use crate::laws::reader_is_grammar;
 use crate::runs::outcome_run::verdict_from;
 use crate::texts::verdict::Verdict;
 use jx_lex::{Depth, LexExit, LexState, Mark, TokenSink, pieces_are_read_in_turn, scan};
-use jx_reduce::KnownStack;
+use jx_reduce::{KnownStack, Listener};
 use std::alloc::{AllocError, Global};
 
 /// The known stack, and a sink that is told the same. Where the stack meets a fault, both are of no more use.
 #[derive(Drop)]
 struct Beside<K: Drop> {
     stack: KnownStack,
-    other: K,
+    other: Listener<K>,
 }
 
 impl<K: TokenSink + Drop> TokenSink for Beside<K> {
     ghost use Rattle.jx_run.specs.inside.Beside.{BothHaveSeen};
 
-    ghost has_seen = { λ both marks ends. BothHaveSeen (K.has_seen both.other) marks ends both.stack };
+    ghost has_seen = { λ both marks ends. BothHaveSeen (K.has_seen both.other.sink) marks ends both.stack };
 
-    ghost awaits = { λ both inside. K.awaits both.other inside };
+    ghost awaits = { λ both inside. K.awaits both.other.sink inside };
 
     #[inline(always)]
     fn begin(&mut self, mark: Mark) -> Result<(), AllocError> {
         self.stack.push(mark)?;
-        self.other.begin(mark)?;
+        self.other.sink.begin(mark)?;
         Ok(())
     }
 
     #[inline(always)]
     fn end(&mut self, at: usize) -> Result<(), AllocError> {
-        self.other.end(at)?;
+        self.other.sink.end(at)?;
         Ok(())
     }
 
     #[inline(always)]
     fn is_done(&self) -> bool {
         self.stack.is_done()
+    }
+
+    #[inline(always)]
+    fn pass(&mut self, text: &[u8], from: usize, to: usize) -> Result<usize, AllocError> {
+        self.other.has_failed = false;
+        let end = self.stack.pass_into(text, from, to, &mut self.other);
+        if self.other.has_failed {
+            return Err(AllocError);
+        }
+        Ok(end)
     }
 }
 
@@ -132,7 +142,10 @@ pub fn read_into<K: TokenSink + Drop, P: Pace>(
     reader_is_grammar();
     let mut both = Beside {
         stack: KnownStack::new(alloc, depth),
-        other: sink,
+        other: Listener {
+            sink,
+            has_failed: false,
+        },
     };
     // The scan ends early only at a fault of the stack, and then it does not matter where.
     let exit = scan_by(&mut both, pace, text, from, to)?;
@@ -142,6 +155,6 @@ pub fn read_into<K: TokenSink + Drop, P: Pace>(
     );
     Ok(OnePass {
         verdict,
-        sink: both.other,
+        sink: both.other.sink,
     })
 }

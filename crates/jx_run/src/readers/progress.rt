@@ -98,12 +98,13 @@ pub(crate) fn settled(base: usize, exit: Option<LexExit>, whole: Whole) -> Progr
 
 /// Lets the stack read whole tokens from between tokens on, where a slice begins. `scan` has a loop of its own for them.
 #[inline(never)]
-fn passed<S: OpenStack>(stack: &mut S, slice: &[u8], to: usize) -> usize
+fn passed<S: OpenStack>(stack: &mut S, slice: &[u8], to: usize) -> Result<usize, AllocError>
     requires { to ≤ length slice.now }
-    ensures bounds { result ≤ to }
-    ensures read { GoesTo (S.has_seen stack.old) (S.has_seen stack.new) (lex Gap 0 (slice_range slice.now 0 result)) Gap }
+    ensures bounds { IfOk result (λ end. end ≤ to) }
+    ensures read { IfOk result (λ end. GoesTo (S.has_seen stack.old) (S.has_seen stack.new) (lex Gap 0 (slice_range slice.now 0 end)) Gap) }
 {
-    stack.pass(slice, 0, to)
+    let end = stack.pass(slice, 0, to)?;
+    Ok(end)
 }
 
 /// Reads the bytes of a slice before `to` from between tokens on, and gives where that ends; none where the stack wanted no more
@@ -119,7 +120,7 @@ pub fn read_between<S: OpenStack>(
     ensures exit { IfOk result (λ exit. IfSome exit (λ e. exit_of e ≡ (lex Gap 0 (slice_range slice.now 0 to)).exit)) }
     ensures done { IfOk result (λ exit. IsNone exit → WantsNoMore (S.has_seen stack.new)) }
 {
-    let at = passed(stack, slice, to);
+    let at = passed(stack, slice, to)?;
     if at == to {
         return Ok(Some(LexExit::State(LexState::Gap)));
     }

@@ -19,7 +19,7 @@ use crate::laws::{reader_is_grammar, verdict_by_settings_is_one};
 use crate::readers::progress::{Progress, settled};
 use crate::texts::byte_order_mark::count_agreed;
 use jx_lex::{LexState, Mark, TokenSink, pieces_are_read_in_turn, scan};
-use jx_reduce::KnownStack;
+use jx_reduce::{KnownStack, Listener};
 use std::alloc::AllocError;
 use std::marker::{Brand, PhantomData};
 
@@ -45,17 +45,17 @@ impl Earlier for Brand {
 #[derive(Drop)]
 struct Past<K: Drop, E> {
     stack: KnownStack,
-    other: K,
+    other: Listener<K>,
     earlier: PhantomData<E>,
 }
 
 impl<K: TokenSink + Drop, E: Earlier> TokenSink for Past<K, E> {
     ghost use Rattle.jx_run.specs.inside.Past.{HasSeenPast};
 
-    ghost has_seen = { λ both marks ends. HasSeenPast E.seen E.stack (K.has_seen both.other) marks ends both.stack };
+    ghost has_seen = { λ both marks ends. HasSeenPast E.seen E.stack (K.has_seen both.other.sink) marks ends both.stack };
 
     // Behind a fault the sink is told nothing more, and so awaits nothing.
-    ghost awaits = { λ both inside. (IsFault both.stack.reading → ⊥) → K.awaits both.other inside };
+    ghost awaits = { λ both inside. (IsFault both.stack.reading → ⊥) → K.awaits both.other.sink inside };
 
     #[inline(always)]
     fn begin(&mut self, mark: Mark) -> Result<(), AllocError> {
@@ -63,7 +63,7 @@ impl<K: TokenSink + Drop, E: Earlier> TokenSink for Past<K, E> {
         if self.stack.is_done() {
             return Ok(());
         }
-        self.other.begin(mark)?;
+        self.other.sink.begin(mark)?;
         Ok(())
     }
 
@@ -72,13 +72,26 @@ impl<K: TokenSink + Drop, E: Earlier> TokenSink for Past<K, E> {
         if self.stack.is_done() {
             return Ok(());
         }
-        self.other.end(at)?;
+        self.other.sink.end(at)?;
         Ok(())
     }
 
     #[inline(always)]
     fn is_done(&self) -> bool {
         self.stack.is_done()
+    }
+
+    #[inline(always)]
+    fn pass(&mut self, text: &[u8], from: usize, to: usize) -> Result<usize, AllocError> {
+        if self.stack.is_done() {
+            return Ok(from);
+        }
+        self.other.has_failed = false;
+        let end = self.stack.pass_into(text, from, to, &mut self.other);
+        if self.other.has_failed {
+            return Err(AllocError);
+        }
+        Ok(end)
     }
 }
 
@@ -137,14 +150,17 @@ fn tell_slice<K: TokenSink + Drop, E: Earlier>(
 {
     let mut both: Past<K, E> = Past {
         stack,
-        other: sink,
+        other: Listener {
+            sink,
+            has_failed: false,
+        },
         earlier: PhantomData,
     };
     let exit = scan(&mut both, state, slice, from, slice.len())?;
     Ok(Told {
         progress: settled(base, exit, both.stack.whole()),
         stack: both.stack,
-        sink: both.other,
+        sink: both.other.sink,
     })
 }
 

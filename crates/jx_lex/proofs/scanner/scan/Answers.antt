@@ -8,7 +8,7 @@ use Rattle.jx_lex.proofs.scanner.scan.Goals as goal
 
 pub loop-i-init : goal.loop-i-init
 loop-i-init g c =
-    let p = c.pass_on-i.ensures in
+    let p = c.in_ok-begin.ensures in
     record { low = p.bounds.0; high = p.bounds.1; sound = c.known_ahead-ahead.ensures.sound c.args.text.now; read = p.read; turn = p.turn }
 
 pub returns-then-is_done-clause-seen : goal.returns-then-is_done-clause-seen

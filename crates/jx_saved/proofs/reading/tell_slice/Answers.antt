@@ -19,20 +19,22 @@ returns-clause-goes_on g c = λ marks h.
     let earlier = g.E.Earlier.stack in
     let old = c.args.stack in
     let new = c.scan.new.sink in
+    let sums = new.chunk.sink in
     let track = lex c.args.state c.args.from (slice_range c.args.slice.now c.args.from (length c.args.slice.now)) in
-    let last : HasTallied earlier track.marks track.ends new.stack new.sum new.begins new.ends = c.in_ok-exit.ensures.seen [] [] c.new-tally.ensures.tallied in
-    let now : HasTallied old track.marks track.ends new.stack new.sum new.begins new.ends =
-    subst (λ (k : Known). HasTallied k track.marks track.ends new.stack new.sum new.begins new.ends) (sym c.requires.stack) last in
+    let last : HasTallied earlier track.marks track.ends new.stack sums.sum sums.begins sums.ends = c.in_ok-exit.ensures.seen [] [] c.new-tally.ensures.tallied in
+    let now : HasTallied old track.marks track.ends new.stack sums.sum sums.begins sums.ends =
+    subst (λ (k : Known). HasTallied k track.marks track.ends new.stack sums.sum sums.begins sums.ends) (sym c.requires.stack) last in
     subst (λ (p : Progress). GoesOn old track (read_marks old.depth track.marks old.reading) c.args.base p new.stack) (sym c.settled.ensures.value)
     (goes_on_by old new.stack marks track c.args.base c.in_ok-exit.exit c.whole.result h now.depth now.reading c.in_ok-exit.ensures.exit
-    (λ e. tallied_done earlier track.marks track.ends new.stack new.sum new.begins new.ends last (c.in_ok-exit.ensures.done (ap is_some e))) c.whole.ensures)
+    (λ e. tallied_done earlier track.marks track.ends new.stack sums.sum sums.begins sums.ends last (c.in_ok-exit.ensures.done (ap is_some e))) c.whole.ensures)
 
 pub returns-clause-told : goal.returns-clause-told
 returns-clause-told g c = λ going.
     let earlier = g.E.Earlier.stack in
     let new = c.scan.new.sink in
+    let sums = new.chunk.sink in
     let track = lex c.args.state c.args.from (slice_range c.args.slice.now c.args.from (length c.args.slice.now)) in
-    let last : HasTallied earlier track.marks track.ends new.stack new.sum new.begins new.ends = c.in_ok-exit.ensures.seen [] [] c.new-tally.ensures.tallied in
+    let last : HasTallied earlier track.marks track.ends new.stack sums.sum sums.begins sums.ends = c.in_ok-exit.ensures.seen [] [] c.new-tally.ensures.tallied in
     let came : c.settled.result ≡ settled c.args.base c.in_ok-exit.exit (whole_of new.stack.reading) =
     c.settled.ensures.value ∙ ap (λ (w : Whole). settled c.args.base c.in_ok-exit.exit w) c.whole.ensures in
     let goes : is_fault (outcome_at (settled c.args.base c.in_ok-exit.exit (whole_of new.stack.reading)) new.stack.reading) ≡ false =

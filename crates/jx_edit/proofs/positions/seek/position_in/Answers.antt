@@ -1,6 +1,7 @@
-use Rattle.std.proofs.Common.{arith, ap, ◌∙◌, refl, ◌-◌, length, take}
+use Rattle.std.proofs.Common.{arith, ap, ◌∙◌, refl, sym, ◌-◌, ℕ, List, length, take}
 use Rattle.std.proofs.lemmas.List.{length-take-le}
 use Rattle.jx_edit.specs.inside.Chunks.{text_of}
+use Rattle.jx_edit.specs.Positions.{first, position_behind}
 use Rattle.jx_edit.proofs.Seeking.{joined_fits, more_here, part_within, there_end, there_in, IsHere}
 use Rattle.jx_edit.proofs.Texts.{next_fits, next_is}
 use Rattle.jx_edit.proofs.positions.seek.position_in.Goals as goal
@@ -13,7 +14,8 @@ joined-requires c =
     let ys = take (c.args.at - c.loop-place.before) xs in
     let here : IsHere cs k c.loop-place.before c.index-chunks-place.result xs =
     record { within = c.loop-place-test.true; chunk = c.index-chunks-place.is; bytes = c.bytes-bytes.ensures; long = c.loop-place.invariant.long } in
-    joined_fits c.args.encoding c.args.from c.loop-place.position c.behind.result (text_of (take k cs)) ys (length (text_of cs)) c.loop-place.invariant.is c.behind.ensures
+    let moves = c.position_behind.ensures ∙ ap (λ (t : List ℕ). position_behind c.args.encoding first (take (c.args.at - c.loop-place.before) t)) (sym c.bytes-bytes.ensures) in
+    joined_fits c.args.encoding c.args.from c.loop-place.position c.position_behind.result (text_of (take k cs)) ys (length (text_of cs)) c.loop-place.invariant.is moves
     (part_within cs k c.loop-place.before c.index-chunks-place.result xs ys here (omega (arith, length-take-le (c.args.at - c.loop-place.before) xs (omega arith))))
     c.requires.lines c.requires.characters
 
@@ -49,10 +51,11 @@ loop-place-preserved c = record {
 pub returns-then-here-bytes : goal.returns-then-here-bytes
 returns-then-here-bytes c =
     c.joined.ensures
-    ∙ there_in c.args.encoding c.args.from c.loop-place.position c.behind.result c.args.chunks.now c.loop-place.place c.loop-place.before c.args.at c.index-chunks-place.result c.bytes-bytes.result.now
+    ∙ there_in c.args.encoding c.args.from c.loop-place.position c.position_behind.result c.args.chunks.now c.loop-place.place c.loop-place.before c.args.at c.index-chunks-place.result c.bytes-bytes.result.now
     (take (c.args.at - c.loop-place.before) c.bytes-bytes.result.now)
     (record { within = c.loop-place-test.true; chunk = c.index-chunks-place.is; bytes = c.bytes-bytes.ensures; long = c.loop-place.invariant.long })
-    c.loop-place.invariant.low (omega arith) c.loop-place.invariant.is refl c.behind.ensures
+    c.loop-place.invariant.low (omega arith) c.loop-place.invariant.is refl
+    (c.position_behind.ensures ∙ ap (λ (t : List ℕ). position_behind c.args.encoding first (take (c.args.at - c.loop-place.before) t)) (sym c.bytes-bytes.ensures))
 
 pub returns : goal.returns
 returns c =

@@ -4,7 +4,7 @@ use Rattle.jx_reduce.specs.Read.{read, went}
 use Rattle.jx_reduce.proofs.stack.blocks.block.Goals as goal
 
 pub returns-clause-reads : goal.returns-clause-reads
-returns-clause-reads c =
+returns-clause-reads g c =
     let text = c.args.text.now in
     let at = c.args.at in
     let m = c.in_ok-masks.ensures in
@@ -15,5 +15,5 @@ returns-clause-reads c =
       fits = b.2;
       exit = m.exit;
       read = sym (c.in_ok-then.ensures.reads text at (omega (arith, room, c.requires.bounds)) c.in_ok-kinds.ensures.kinds)
-          ∙ ap (λ (ms : List Mark). read c.args.most ms (went c.args.expect c.args.holders.now)) (sym m.marks);
+          ∙ ap (λ (ms : List Mark). read c.args.most ms (went c.args.expect (g.H.Containers.list c.args.holders.now))) (sym m.marks);
     }

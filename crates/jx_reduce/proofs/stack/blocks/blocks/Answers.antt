@@ -4,25 +4,25 @@ use Rattle.jx_reduce.proofs.Passed.{reads-none, reads-then, reads-within}
 use Rattle.jx_reduce.proofs.stack.blocks.blocks.Goals as goal
 
 pub loop-init : goal.loop-init
-loop-init c =
+loop-init g c =
     let b = c.requires.bounds in
-    record { low = omega arith; high = b.0; reads = reads-none c.args.most c.args.text.now c.args.from (went c.args.expect c.args.holders.now) (omega (arith, b)) }
+    record { low = omega arith; high = b.0; reads = reads-none c.args.most c.args.text.now c.args.from (went c.args.expect (g.H.Containers.list c.args.holders.now)) (omega (arith, b)) }
 
 pub block-requires-clause-within : goal.block-requires-clause-within
-block-requires-clause-within c =
+block-requires-clause-within g c =
     let w = c.requires.within in (
-      reads-within c.args.most c.args.text.now c.args.from c.loop.at c.args.expect c.loop.expect c.args.holders.now c.loop.holders c.loop.invariant.reads w.0,
+      reads-within c.args.most c.args.text.now c.args.from c.loop.at c.args.expect c.loop.expect (g.H.Containers.list c.args.holders.now) (g.H.Containers.list c.loop.holders) c.loop.invariant.reads w.0,
       w.1,
     )
 
 pub returns-then-passed-lt-CLOSE-clause-reads : goal.returns-then-passed-lt-CLOSE-clause-reads
-returns-then-passed-lt-CLOSE-clause-reads c =
+returns-then-passed-lt-CLOSE-clause-reads g c =
     let p = c.in-Some.passed in
-    reads-then c.args.most c.args.text.now c.args.from c.loop.at (c.loop.at + p.len) (went c.args.expect c.args.holders.now) (went c.loop.expect c.loop.holders) (went p.then c.block.new.holders)
+    reads-then c.args.most c.args.text.now c.args.from c.loop.at (c.loop.at + p.len) (went c.args.expect (g.H.Containers.list c.args.holders.now)) (went c.loop.expect (g.H.Containers.list c.loop.holders)) (went p.then (g.H.Containers.list c.block.new.holders))
     c.loop.invariant.reads c.in-Some.ensures.reads
 
 pub loop-preserved : goal.loop-preserved
-loop-preserved c =
+loop-preserved g c =
     let p = c.in-Some.passed in
     let v = c.loop.invariant in
     let low = v.low in
@@ -32,6 +32,6 @@ loop-preserved c =
       low = omega (arith, low);
       high = omega (arith, short, room);
       reads =
-          reads-then c.args.most c.args.text.now c.args.from c.loop.at (c.loop.at + p.len) (went c.args.expect c.args.holders.now) (went c.loop.expect c.loop.holders)
-          (went p.then c.block.new.holders) v.reads c.in-Some.ensures.reads;
+          reads-then c.args.most c.args.text.now c.args.from c.loop.at (c.loop.at + p.len) (went c.args.expect (g.H.Containers.list c.args.holders.now)) (went c.loop.expect (g.H.Containers.list c.loop.holders))
+          (went p.then (g.H.Containers.list c.block.new.holders)) v.reads c.in-Some.ensures.reads;
     }

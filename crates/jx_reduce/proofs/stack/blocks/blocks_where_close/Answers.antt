@@ -4,6 +4,6 @@ use Rattle.jx_reduce.proofs.Passed.{reads-none}
 use Rattle.jx_reduce.proofs.stack.blocks.blocks_where_close.Goals as goal
 
 pub returns-then-to-from-lt-BLOCK-clause-reads : goal.returns-then-to-from-lt-BLOCK-clause-reads
-returns-then-to-from-lt-BLOCK-clause-reads c =
+returns-then-to-from-lt-BLOCK-clause-reads g c =
     let b = c.requires.bounds in
-    reads-none c.args.most c.args.text.now c.args.from (went c.args.expect c.args.holders.now) (omega (arith, b))
+    reads-none c.args.most c.args.text.now c.args.from (went c.args.expect (g.H.Containers.list c.args.holders.now)) (omega (arith, b))

@@ -9,43 +9,43 @@ all_three : (d : ℕ) (xs : List ℕ) (a b c e : ℕ) (r s t u : Reading) → Re
 all_three d xs a b c e r s t u f g h = reads-then d xs a c e r t u (reads-then d xs a b c r s t f g) h
 
 pub loop-init : goal.loop-init
-loop-init c =
+loop-init g c =
     let b = c.requires.bounds in
-    record { low = omega arith; high = b.0; reads = reads-none c.args.most c.args.text.now c.args.from (went c.args.expect c.args.holders.now) (omega (arith, b)) }
+    record { low = omega arith; high = b.0; reads = reads-none c.args.most c.args.text.now c.args.from (went c.args.expect (g.H.Containers.list c.args.holders.now)) (omega (arith, b)) }
 
 pub blocks_where_close-begin-requires-clause-within : goal.blocks_where_close-begin-requires-clause-within
-blocks_where_close-begin-requires-clause-within c =
+blocks_where_close-begin-requires-clause-within g c =
     let w = c.requires.within in (
-      reads-within c.args.most c.args.text.now c.args.from c.loop.at c.args.expect c.loop.expect c.args.holders.now c.loop.holders c.loop.invariant.reads w.0,
+      reads-within c.args.most c.args.text.now c.args.from c.loop.at c.args.expect c.loop.expect (g.H.Containers.list c.args.holders.now) (g.H.Containers.list c.loop.holders) c.loop.invariant.reads w.0,
       w.1,
     )
 
 pub returns-then-not-takes_value-clause-reads : goal.returns-then-not-takes_value-clause-reads
-returns-then-not-takes_value-clause-reads c =
+returns-then-not-takes_value-clause-reads g c =
     let b = c.blocks_where_close-begin in
-    reads-then c.args.most c.args.text.now c.args.from c.loop.at b.result.0 (went c.args.expect c.args.holders.now) (went c.loop.expect c.loop.holders) (went b.result.1 b.new.holders)
+    reads-then c.args.most c.args.text.now c.args.from c.loop.at b.result.0 (went c.args.expect (g.H.Containers.list c.args.holders.now)) (went c.loop.expect (g.H.Containers.list c.loop.holders)) (went b.result.1 (g.H.Containers.list b.new.holders))
     c.loop.invariant.reads b.ensures.reads
 
 pub rounds-behind-requires-clause-within : goal.rounds-behind-requires-clause-within
-rounds-behind-requires-clause-within c =
+rounds-behind-requires-clause-within g c =
     let w = c.requires.within in
     let b = c.blocks_where_close-begin in (
-      reads-within c.args.most c.args.text.now c.args.from b.result.0 c.args.expect b.result.1 c.args.holders.now b.new.holders
-          (reads-then c.args.most c.args.text.now c.args.from c.loop.at b.result.0 (went c.args.expect c.args.holders.now) (went c.loop.expect c.loop.holders) (went b.result.1 b.new.holders)
+      reads-within c.args.most c.args.text.now c.args.from b.result.0 c.args.expect b.result.1 (g.H.Containers.list c.args.holders.now) (g.H.Containers.list b.new.holders)
+          (reads-then c.args.most c.args.text.now c.args.from c.loop.at b.result.0 (went c.args.expect (g.H.Containers.list c.args.holders.now)) (went c.loop.expect (g.H.Containers.list c.loop.holders)) (went b.result.1 (g.H.Containers.list b.new.holders))
           c.loop.invariant.reads b.ensures.reads)
           w.0,
       w.1,
     )
 
 pub returns-then-end-to-clause-reads : goal.returns-then-end-to-clause-reads
-returns-then-end-to-clause-reads c =
+returns-then-end-to-clause-reads g c =
     let b = c.blocks_where_close-begin in
     let r = c.rounds-behind in
-    all_three c.args.most c.args.text.now c.args.from c.loop.at b.result.0 r.result.0 (went c.args.expect c.args.holders.now) (went c.loop.expect c.loop.holders) (went b.result.1 b.new.holders)
-    (went r.result.1 r.new.holders) c.loop.invariant.reads b.ensures.reads r.ensures.reads
+    all_three c.args.most c.args.text.now c.args.from c.loop.at b.result.0 r.result.0 (went c.args.expect (g.H.Containers.list c.args.holders.now)) (went c.loop.expect (g.H.Containers.list c.loop.holders)) (went b.result.1 (g.H.Containers.list b.new.holders))
+    (went r.result.1 (g.H.Containers.list r.new.holders)) c.loop.invariant.reads b.ensures.reads r.ensures.reads
 
 pub loop-preserved : goal.loop-preserved
-loop-preserved c =
+loop-preserved g c =
     let b = c.blocks_where_close-begin in
     let r = c.rounds-behind in
     let low = c.loop.invariant.low in
@@ -56,6 +56,6 @@ loop-preserved c =
       low = omega (arith, low, d, e);
       high = omega (arith, e, end);
       reads =
-          all_three c.args.most c.args.text.now c.args.from c.loop.at b.result.0 r.result.0 (went c.args.expect c.args.holders.now) (went c.loop.expect c.loop.holders) (went b.result.1 b.new.holders)
-          (went r.result.1 r.new.holders) c.loop.invariant.reads b.ensures.reads r.ensures.reads;
+          all_three c.args.most c.args.text.now c.args.from c.loop.at b.result.0 r.result.0 (went c.args.expect (g.H.Containers.list c.args.holders.now)) (went c.loop.expect (g.H.Containers.list c.loop.holders)) (went b.result.1 (g.H.Containers.list b.new.holders))
+          (went r.result.1 (g.H.Containers.list r.new.holders)) c.loop.invariant.reads b.ensures.reads r.ensures.reads;
     }

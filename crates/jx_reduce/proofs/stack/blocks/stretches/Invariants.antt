@@ -5,8 +5,8 @@ use Rattle.jx_reduce.proofs.stack.blocks.stretches.Given as goal
 
 -- the stretches up to here were read
 abbrev pub invariant-loop : goal.invariant-loop
-invariant-loop l = record {
+invariant-loop g l = record {
   low : l.from ≤ l.at;
   high : l.at ≤ l.to;
-  reads : Reads l.most l.text l.from l.at (went l.initial.expect l.initial.holders) (went l.expect l.holders);
+  reads : Reads l.most l.text l.from l.at (went l.initial.expect (g.H.Containers.list l.initial.holders)) (went l.expect (g.H.Containers.list l.holders));
 }

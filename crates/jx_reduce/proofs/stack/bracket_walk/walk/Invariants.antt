@@ -3,7 +3,8 @@ use Rattle.jx_lex.specs.inside.Bits.{bit}
 use Rattle.jx_reduce.specs.Bits.{in_word}
 use Rattle.jx_reduce.specs.Read.{top}
 use Rattle.jx_reduce.specs.declared.table.holder.Holder.{Holder}
-use Rattle.jx_reduce.specs.inside.Blocks.{container, IsInner, Walks}
+use Rattle.jx_reduce.specs.Containers.{IsInner}
+use Rattle.jx_reduce.specs.inside.Blocks.{container, Walks}
 use Rattle.jx_reduce.proofs.BlockWalk.{any_bracket}
 use Rattle.jx_reduce.proofs.stack.bracket_walk.walk.Given as goal
 

@@ -5,19 +5,26 @@ use Rattle.jx_reduce.specs.declared.table.expect.Expect.{Expect}
 use Rattle.jx_reduce.specs.declared.table.expect.Expect.TheVariants as expected
 use Rattle.jx_reduce.proofs.Passed.{reads-none}
 use Rattle.jx_reduce.proofs.stack.whole_tokens.ends.Goals as goal
+use Rattle.jx_reduce.proofs.Sees.{sees-none}
 
 pub returns-in-On-clause-reads : goal.returns-in-On-clause-reads
-returns-in-On-clause-reads c = λ depth.
+returns-in-On-clause-reads g c = λ depth.
     let is : expect_of c.args.turn ≡ expected.After = ap expect_of c.in-On.is ∙ c.is_after.ensures c.if-is_after.true in
-    subst (λ (f : Expect). Reads depth c.args.text.now c.args.at.now c.after.new.at (went f c.args.holders.now) (went (expect_of c.after.result) c.after.new.holders)) (sym is)
+    subst (λ (f : Expect). Reads depth c.args.text.now c.args.at.now c.after.new.at (went f (g.H.Containers.list c.args.holders.now)) (went (expect_of c.after.result) (g.H.Containers.list c.after.new.holders))) (sym is)
     (c.after.ensures.reads depth)
 
 pub returns-in_default-clause-reads : goal.returns-in_default-clause-reads
-returns-in_default-clause-reads c = λ depth.
+returns-in_default-clause-reads g c = λ depth.
     let b = c.requires.bounds in
-    let before = went (expect_of c.args.turn) c.args.holders.now in
-    subst (λ (f : Expect). Reads depth c.args.text.now c.args.at.now c.args.at.now before (went f c.args.holders.now)) (ap expect_of c.in-On.is)
+    let before = went (expect_of c.args.turn) (g.H.Containers.list c.args.holders.now) in
+    subst (λ (f : Expect). Reads depth c.args.text.now c.args.at.now c.args.at.now before (went f (g.H.Containers.list c.args.holders.now))) (ap expect_of c.in-On.is)
     (reads-none depth c.args.text.now c.args.at.now before (omega (arith, b)))
 
 pub returns-in_default-2-clause-reads : goal.returns-in_default-2-clause-reads
-returns-in_default-2-clause-reads c = λ depth. let b = c.requires.bounds in reads-none depth c.args.text.now c.args.at.now (went (expect_of c.args.turn) c.args.holders.now) (omega (arith, b))
+returns-in_default-2-clause-reads g c = λ depth. let b = c.requires.bounds in reads-none depth c.args.text.now c.args.at.now (went (expect_of c.args.turn) (g.H.Containers.list c.args.holders.now)) (omega (arith, b))
+
+pub returns-in_default-clause-seen : goal.returns-in_default-clause-seen
+returns-in_default-clause-seen g c = sees-none (g.W.Watch.has_seen c.args.watch.now) c.args.text.now c.args.at.now
+
+pub returns-in_default-2-clause-seen : goal.returns-in_default-2-clause-seen
+returns-in_default-2-clause-seen g c = sees-none (g.W.Watch.has_seen c.args.watch.now) c.args.text.now c.args.at.now

@@ -2,15 +2,18 @@ use Rattle.std.proofs.Common.{◌≤◌}
 use Rattle.jx_lex.specs.Ahead.{IsSound}
 use Rattle.jx_reduce.specs.Read.{went}
 use Rattle.jx_reduce.specs.inside.Passed.{Reads, TakesValue}
+use Rattle.jx_reduce.specs.inside.Told.{Sees}
 use Rattle.jx_reduce.proofs.stack.whole_tokens.rounds.Given as goal
 
 -- the rounds up to here were read
 abbrev pub invariant-loop : goal.invariant-loop
-invariant-loop l =
+invariant-loop g l =
     record {
       low : l.from ≤ l.at;
       high : l.at ≤ l.to;
       takes : TakesValue l.expect;
       sound : IsSound l.text l.ahead;
-      reads : Reads l.most l.text l.from l.at (went l.initial.expect l.initial.holders) (went l.expect l.holders);
+      reads : Reads l.most l.text l.from l.at (went l.initial.expect (g.H.Containers.list l.initial.holders)) (went l.expect (g.H.Containers.list l.holders));
+      seen : Sees (g.W.Watch.has_seen l.initial.watch) (g.W.Watch.has_seen l.watch) l.text l.from l.at;
+      turn : g.W.Watch.awaits l.watch;
     }

@@ -9,7 +9,7 @@ use Rattle.jx_run.proofs.readers.one_pass.read_into.Goals as goal
 pub returns-clause-verdict : goal.returns-clause-verdict
 returns-clause-verdict g c =
     let bytes = slice_range c.args.text.now c.args.from c.args.to in
-    let s : Scanned c.args.depth c.args.from bytes (g.K.TokenSink.has_seen c.args.sink) (g.K.TokenSink.has_seen c.scan_by.new.sink.other) c.new.result c.scan_by.new.sink.stack c.in_ok-exit.exit c.whole.result = record {
+    let s : Scanned c.args.depth c.args.from bytes (g.K.TokenSink.has_seen c.args.sink) (g.K.TokenSink.has_seen c.scan_by.new.sink.other.sink) c.new.result c.scan_by.new.sink.stack c.in_ok-exit.exit c.whole.result = record {
       depth = c.new.ensures.depth;
       start = c.new.ensures.reads;
       sees = c.in_ok-exit.ensures.seen;
@@ -24,7 +24,7 @@ returns-clause-verdict g c =
 pub returns-clause-seen : goal.returns-clause-seen
 returns-clause-seen g c = λ accepted.
     let bytes = slice_range c.args.text.now c.args.from c.args.to in
-    let s : Scanned c.args.depth c.args.from bytes (g.K.TokenSink.has_seen c.args.sink) (g.K.TokenSink.has_seen c.scan_by.new.sink.other) c.new.result c.scan_by.new.sink.stack c.in_ok-exit.exit c.whole.result = record {
+    let s : Scanned c.args.depth c.args.from bytes (g.K.TokenSink.has_seen c.args.sink) (g.K.TokenSink.has_seen c.scan_by.new.sink.other.sink) c.new.result c.scan_by.new.sink.stack c.in_ok-exit.exit c.whole.result = record {
       depth = c.new.ensures.depth;
       start = c.new.ensures.reads;
       sees = c.in_ok-exit.ensures.seen;

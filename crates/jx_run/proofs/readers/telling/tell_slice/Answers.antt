@@ -19,7 +19,7 @@ returns-clause-goes_on g c = λ marks h.
     let earlier = g.E.Earlier.stack in
     let old = c.args.stack in
     let new = c.scan.new.sink.stack in
-    let told = g.K.TokenSink.has_seen c.scan.new.sink.other in
+    let told = g.K.TokenSink.has_seen c.scan.new.sink.other.sink in
     let track = lex c.args.state c.args.from (slice_range c.args.slice.now c.args.from (length c.args.slice.now)) in
     let first = subst (λ (k : Known). HasSeenPast seen k (g.K.TokenSink.has_seen c.args.sink) [] [] old) c.requires.stack (past_new seen old (g.K.TokenSink.has_seen c.args.sink) c.requires.going c.requires.seen) in
     let last : HasSeenPast seen earlier told track.marks track.ends new = c.in_ok-exit.ensures.seen [] [] first in
@@ -34,7 +34,7 @@ returns-clause-all g c = λ going.
     let earlier = g.E.Earlier.stack in
     let old = c.args.stack in
     let new = c.scan.new.sink.stack in
-    let told = g.K.TokenSink.has_seen c.scan.new.sink.other in
+    let told = g.K.TokenSink.has_seen c.scan.new.sink.other.sink in
     let track = lex c.args.state c.args.from (slice_range c.args.slice.now c.args.from (length c.args.slice.now)) in
     let first = subst (λ (k : Known). HasSeenPast seen k (g.K.TokenSink.has_seen c.args.sink) [] [] old) c.requires.stack (past_new seen old (g.K.TokenSink.has_seen c.args.sink) c.requires.going c.requires.seen) in
     let last : HasSeenPast seen earlier told track.marks track.ends new = c.in_ok-exit.ensures.seen [] [] first in
@@ -52,7 +52,7 @@ returns-clause-past g c =
     let earlier = g.E.Earlier.stack in
     let old = c.args.stack in
     let new = c.scan.new.sink.stack in
-    let told = g.K.TokenSink.has_seen c.scan.new.sink.other in
+    let told = g.K.TokenSink.has_seen c.scan.new.sink.other.sink in
     let track = lex c.args.state c.args.from (slice_range c.args.slice.now c.args.from (length c.args.slice.now)) in
     let first = subst (λ (k : Known). HasSeenPast seen k (g.K.TokenSink.has_seen c.args.sink) [] [] old) c.requires.stack (past_new seen old (g.K.TokenSink.has_seen c.args.sink) c.requires.going c.requires.seen) in
     let last : HasSeenPast seen earlier told track.marks track.ends new = c.in_ok-exit.ensures.seen [] [] first in
@@ -63,4 +63,4 @@ returns-clause-turn g c = λ after is.
     let new = c.scan.new.sink in
     let came : c.settled.result ≡ settled c.args.base c.in_ok-exit.exit (whole_of new.stack.reading) =
     c.settled.ensures.value ∙ ap (λ (w : Whole). settled c.args.base c.in_ok-exit.exit w) c.whole.ensures in
-    settled_awaits (g.K.TokenSink.awaits new.other) c.args.base c.in_ok-exit.exit new.stack.reading c.in_ok-exit.ensures.turn after (ap (λ (p : Progress). outcome_at p new.stack.reading) (sym came) ∙ is)
+    settled_awaits (g.K.TokenSink.awaits new.other.sink) c.args.base c.in_ok-exit.exit new.stack.reading c.in_ok-exit.ensures.turn after (ap (λ (p : Progress). outcome_at p new.stack.reading) (sym came) ∙ is)

@@ -4,7 +4,7 @@ use Rattle.jx_c.proofs.Words.{nothing}
 use Rattle.jx_c.proofs.streams.stack.JxStack.close.Goals as goal
 
 pub returns-then-self-gt0-clause-holders : goal.returns-then-self-gt0-clause-holders
-returns-then-self-gt0-clause-holders c = c.inner.ensures.rest
+returns-then-self-gt0-clause-holders c = c.inner_word.ensures.rest
 
 pub returns-else-self-gt0-clause-holders : goal.returns-else-self-gt0-clause-holders
 returns-else-self-gt0-clause-holders c =

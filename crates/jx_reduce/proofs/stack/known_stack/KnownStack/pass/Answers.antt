@@ -5,28 +5,12 @@ use Rattle.jx_lex.specs.Lex.{lex}
 use Rattle.jx_reduce.specs.inside.KnownInside.{AtRest}
 use Rattle.jx_reduce.specs.declared.stack.known_stack.Fault.{Fault}
 use Rattle.jx_reduce.proofs.KnownMoves.{has_read-then}
-use Rattle.jx_reduce.proofs.Passed.{reads-none, reads-within}
+use Rattle.jx_reduce.proofs.Passed.{reads-none}
 use Rattle.jx_reduce.proofs.stack.known_stack.KnownStack.pass.Goals as goal
 
 no_fault : (o : Option Fault) → is_some o ≡ false → o ≡ None
 no_fault None e = refl
 no_fault (Some f) e = absurd cc
-
-pub returns-then-to-from-lt-LEAST-clause-exit : goal.returns-then-to-from-lt-LEAST-clause-exit
-returns-then-to-from-lt-LEAST-clause-exit c =
-    let b = c.requires in
-    (reads-none c.args.self.now.depth c.args.text.now c.args.from c.args.self.now.reading (omega (arith, b))).exit
-
-pub returns-then-to-from-lt-LEAST-clause-reads : goal.returns-then-to-from-lt-LEAST-clause-reads
-returns-then-to-from-lt-LEAST-clause-reads c =
-    let b = c.requires in
-    (reads-none c.args.self.now.depth c.args.text.now c.args.from c.args.self.now.reading (omega (arith, b))).read
-
-pub returns-then-to-from-lt-LEAST-clause-marks : goal.returns-then-to-from-lt-LEAST-clause-marks
-returns-then-to-from-lt-LEAST-clause-marks c = λ before h.
-    let b = c.requires in
-    let k = c.args.self.now in
-    has_read-then k k before ((lex Gap c.args.from (slice_range c.args.text.now c.args.from c.args.from)).marks) refl (reads-none k.depth c.args.text.now c.args.from k.reading (omega (arith, b))).read h
 
 pub returns-then-is_some-clause-exit : goal.returns-then-is_some-clause-exit
 returns-then-is_some-clause-exit c =
@@ -46,10 +30,8 @@ returns-then-is_some-clause-marks c = λ before h.
 
 pub invariant_of-self : goal.invariant_of-self
 invariant_of-self c =
-    let r = c.stretches-at in
-    let i = c.self.inside in
-    let none : i.fault ≡ None = no_fault i.fault (sym c.is_some.ensures ∙ c.if-is_some.false) in
+    let r = c.pass_tokens-at in
+    let none : c.self.inside.fault ≡ None = no_fault c.self.inside.fault (sym c.is_some.ensures ∙ c.if-is_some.false) in
     let same = c.containers-most.ensures.value in
-    let short = c.self.invariant.within in
-    let within = reads-within c.containers-most.result c.args.text.now c.args.from r.result.0 i.expect r.result.1 i.open r.new.holders r.ensures.reads (omega (arith, same, short)) in
+    let within = r.ensures.within in
     record { within = omega (arith, same, within); rest = subst (λ (f : Option Fault). AtRest f r.result.1 r.new.holders) (sym none) tt }

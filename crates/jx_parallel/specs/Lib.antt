@@ -1,0 +1,4 @@
+pub mod Faults
+pub mod Offsets
+pub mod Verdict
+pub mod inside

@@ -1,0 +1,3 @@
+-- What the contracts of this crate's own functions cite, and no public one.
+pub mod Kept
+pub mod Lead
