@@ -9,6 +9,7 @@ import json
 import os
 import pathlib
 import random
+import re
 import struct
 import subprocess
 import sys
@@ -118,6 +119,19 @@ def can_be_a_word(pointer):
     return "\0" not in pointer and not any(0xD800 <= ord(c) < 0xE000 for c in pointer)
 
 
+def is_misspelt(pointer):
+    """Whether it is no pointer."""
+    return re.search("~(?![01])", pointer) is not None or not re.match("/|$", pointer)
+
+
+def asked(pointers):
+    """The words that ask for pointers. A word that is none is refused, a line of a list is answered."""
+    if not any(map(is_misspelt, pointers)):
+        return ["--", *(pointer.encode() for pointer in pointers)]
+    pathlib.Path("asked").write_text("".join(pointer + "\n" for pointer in pointers), encoding="utf-8", newline="")
+    return ["--pointers", "asked"]
+
+
 def some_pointers(rng, root):
     """Pointers into a tree, and some that lead nowhere or are none."""
     every = [pointer for pointer in all_pointers(root) if can_be_a_word(pointer)]
@@ -126,6 +140,9 @@ def some_pointers(rng, root):
         chosen.append(rng.choice(every) + rng.choice(("/", "/0", "/1", "/a", "/-", "/01", "/999999999999999999999", "~", "x", "/~2", "/name")))
     if rng.random() < 0.2:
         chosen.append(rng.choice(("x", "~", "a/b")))
+    if any("\n" in pointer or "\r" in pointer for pointer in chosen):
+        # Such a pointer is no line of a list, in which those that are none stand.
+        chosen = [pointer for pointer in chosen if not is_misspelt(pointer)] or [""]
     rng.shuffle(chosen)
     return chosen
 
@@ -145,7 +162,7 @@ def fault(words):
 def looked_up(index, text, pointers, words=()):
     pathlib.Path("text.jxi").write_bytes(index)
     pathlib.Path("text").write_bytes(text)
-    command = [PROGRAM, "at", "--index", "text.jxi", "--file", "text", *words, "--", *(pointer.encode() for pointer in pointers)]
+    command = [PROGRAM, "at", "--index", "text.jxi", "--file", "text", *words, *asked(pointers)]
     done = subprocess.run(command, capture_output=True)
     return done.stdout.decode(), done.stderr.decode(), done.returncode
 
@@ -157,7 +174,7 @@ FORMS = ([], ["-c"], ["-r"], ["-c", "-r"])
 def got(text, pointers, words):
     """What `jx get` writes and tells of a text, and its status."""
     pathlib.Path("text").write_bytes(text)
-    done = subprocess.run([PROGRAM, "get", "--file", "text", *words, "--", *(pointer.encode() for pointer in pointers)], capture_output=True)
+    done = subprocess.run([PROGRAM, "get", "--file", "text", *words, *asked(pointers)], capture_output=True)
     return done.stdout, done.stderr.decode(), done.returncode
 
 

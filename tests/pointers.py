@@ -44,7 +44,14 @@ def lists(lines, count):
     return [[lines[(first + place) % len(lines)] for place in range(count)] for first in range(0, len(lines), count)]
 
 
+def is_misspelt(line):
+    return line[0].startswith((b"no slash", b"bad escape"))
+
+
 def of_text(settings, repeated, text, lines):
+    for _, pointer in filter(is_misspelt, lines):
+        same("a word %r that is no pointer" % pointer, (b"", 2), looked_up(text, [], [b"", pointer]))
+    lines = [line for line in lines if not is_misspelt(line)]
     for count in COUNTS:
         for part in lists(lines, count):
             words = ["--ignore-bom"] if settings == b"b" else []
@@ -73,7 +80,7 @@ def of_many(settings, repeated, text, lines):
 def of_refused(answer, text):
     for count in COUNTS:
         for words in ([], ["--unique-names"]):
-            same("%d pointers into %r" % (count, text), (answer + b"\n", 1), looked_up(text, words, [b"", b"x", b"/a", b"/~", b"/0"] * 3 + [b"/b"] * 2))
+            same("%d pointers into %r" % (count, text), (answer + b"\n", 1), looked_up(text, words, [b"", b"/x", b"/a", b"/~0", b"/0"] * 3 + [b"/b"] * 2))
     for words in ([], ["--unique-names"]):
         of_a_list("%d pointers into %r" % (MANY, text), text, words, [(answer, b"")], [(b"", b"/a")] * MANY)
 

@@ -113,7 +113,8 @@ looked() { said '' at --index "$@"; }
 what_is_wrong_with_an_index_is_told() {
     printf '[1,{"a":"b"}]' >two.json
     "$program" save two.json >two.jxi
-    same 'a look-up' "$(lines 'status 1' 'out: found string 8..11' 'out: past end at token 0' 'out: no slash')" "$(looked two.jxi --file two.json /1/a /2 x)"
+    same 'a look-up' "$(lines 'status 1' 'out: found string 8..11' 'out: past end at token 0')" "$(looked two.jxi --file two.json /1/a /2)"
+    same 'a word that is no pointer' "$(lines 'status 2' 'err: jx: x: no slash: a FILE stands behind --file')" "$(looked two.jxi --file two.json /1/a x)"
     lines '' /1/a >list
     same 'a list' "$(lines 'status 0' 'out: found array 0..13' 'out: found string 8..11')" "$(looked two.jxi --file two.json --pointers list)"
     same 'no index' "$(lines 'status 2' 'err: jx: missing.jxi: cannot open: No such file or directory')" "$(looked missing.jxi --file two.json /1)"

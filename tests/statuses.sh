@@ -22,7 +22,7 @@ what_is_refused_or_not_found_ends_with_status_1() {
     same 'too short a text' "$(lines 'status 1' 'out: truncated')" "$(said '' check)"
     same 'too deep a text' "$(lines 'status 1' 'out: too deep at 8')" "$(said '[1,{"a":[]}]' check --depth 2)"
     same 'rows of no text' "$(lines 'status 1' 'out: stopped at 7')" "$(said '{"a":1,2]' index)"
-    same 'pointers that are not all found' "$(lines 'status 1' 'out: found number 4..6' 'out: past end at token 0' 'out: no slash')" "$(said '[10,20]' at /1 /2 x)"
+    same 'pointers that are not all found' "$(lines 'status 1' 'out: found number 4..6' 'out: past end at token 0')" "$(said '[10,20]' at /1 /2)"
     same 'lines that are not all accepted' "$(lines 'status 1' 'out: 2 2..4 truncated' 'out: accepted 1, refused 1')" "$(said '1\n[2\n' lines)"
     same 'elements that are not all accepted' "$(lines 'status 1' 'out: 1..6 accepted' 'out: 7..11 may be cut' 'out: 13..16 truncated')" "$(said '\036true\n\036true\036\036[1\n' seq)"
 }
@@ -136,7 +136,7 @@ files_and_pointers_are_taken_as_they_stand() {
     same 'a file that begins with a hyphen' "$(lines 'status 0' 'out: accepted')" "$(said '' check --file '-x y')"
     same 'a file named as an option' "$(lines 'status 1' 'out: truncated')" "$(said '' check --file --depth)"
     same 'a file behind =' "$(lines 'status 0' 'out: accepted')" "$(said '' check '--file=-x y')"
-    same 'pointers that begin with a hyphen' "$(lines 'status 1' 'out: no slash' 'out: no slash')" "$(said '[1]' at -- -1 --depth)"
+    same 'words that begin with a hyphen' "$(lines 'status 2' 'err: jx: --depth: no slash: a FILE stands behind --file')" "$(said '[1]' at -- /0 --depth)"
     same 'commas and spaces in a pointer' "$(lines 'status 0' 'out: found number 8..9')" "$(said '{"a, b":1}' at '/a, b')"
 }
 
@@ -152,21 +152,39 @@ an_option_that_is_given_twice_counts_as_it_stands_last() {
     same 'several pointers stay' "$(lines 'status 0' 'out: found array 1..3' 'out: found array 0..4')" "$(said '[[]]' at --depth 3 /0 --depth 4 '')"
 }
 
-# The program looks whether its standard input or output is a terminal.
-terminals_are_not_taken_for_what_they_are_not() {
+# Nothing is read where a word for a pointer is none.
+words_that_are_no_pointers_are_refused_before_a_read() {
+    local hint='no slash: a FILE stands behind --file' command
+    printf '[[7]]' >dump.json
+    for command in 'at /0 dump.json' 'at dump.json' 'get /0 dump.json' 'get -c dump.json' 'at dump.json --file dump.json' 'get --lines /a dump.json' 'at none.json'; do
+        # shellcheck disable=SC2086
+        same "jx $command" "$(lines 'status 2' "err: jx: ${command##* }: $hint")" "$(said '[1]' $command | sed "s/dump.json --file //")"
+    done
+    same 'what stands on standard input is left' '[1]' "$(printf '[1]' | { "$program" get /a dump.json 2>err; cat; })"
+    same 'a bad escape' "$(lines 'status 2' 'err: jx: /~2: bad escape at 1')" "$(said '[1]' at /0 '/~2')"
+    printf '/0\nx\n' >list
+    same 'a line of a list is answered' "$(lines 'status 1' 'out: found number 1..2' 'out: no slash')" "$(said '[1]' at --pointers list)"
+    same 'a name that a terminal obeys' "$(lines 'status 2' 'err: jx: a\x1bb: '"$hint")" "$(said '[1]' at "$(printf 'a\033b')")"
+}
+
+# An absolute path is a pointer too.
+each_asks_whether_a_word_is_a_file_or_a_pointer() {
+    local path
+    path=$PWD/here.json
+    printf '[1,2]' >"$path"
+    same 'the one word names a file' "$(lines 'status 2' "err: jx: $path: names a file: write jx each '' FILE, or jx each POINTER FILE")" "$(said '[1]' each "$path")"
+    same 'a file behind an empty pointer' "$(lines 'status 0' 'out: 1' 'out: 2')" "$(said '' each '' "$path")"
+    same 'a pointer that names no file' "$(lines 'status 0' 'out: 7')" "$(said '{"nowhere":[7]}' each /nowhere)"
+}
+
+# The program looks whether its standard output is a terminal.
+runs_are_not_written_to_a_terminal() {
     if ! command -v script >/dev/null; then
         echo 'statuses.sh: there is no script here: no terminal is tried'
         return
     fi
     printf '[[7]]' >dump.json
-    local hint='a file and no pointer: write --file in front of it' command
-    for command in 'at /0 dump.json' 'at dump.json' 'get /0 dump.json' 'get -c dump.json'; do
-        same "jx $command, where a terminal would be read" "jx: dump.json: $hint" "$(timeout 20 script -qec "'$program' $command" /dev/null </dev/null | tr -d '\r')"
-        timeout 20 script -qec "'$program' $command" /dev/null </dev/null >/dev/null
-        same "jx $command: its status" 2 $?
-    done
-    same 'where no terminal is read, it is a pointer' "$(lines 'status 1' 'out: found array 1..4' 'out: no slash')" "$(said '[[7]]' at /0 dump.json)"
-    same 'where a file is named, it is a pointer' "$(lines 'found array 1..4' 'no slash')" "$(timeout 20 script -qec "'$program' at /0 dump.json --file dump.json" /dev/null </dev/null | tr -d '\r')"
+    local command
     for command in part 'part --from 0' join; do
         same "jx $command to a terminal" 'jx: a run is not written to a terminal: write it to a file or a pipe' "$(timeout 20 script -qec "'$program' $command <dump.json" /dev/null </dev/null | tr -d '\r')"
         timeout 20 script -qec "'$program' $command <dump.json" /dev/null </dev/null >/dev/null
@@ -203,5 +221,5 @@ tests a_whole_answer_ends_with_status_0 \
     a_file_of_pointers_may_be_at_fault \
     files_and_pointers_are_taken_as_they_stand \
     an_option_that_is_given_twice_counts_as_it_stands_last \
-    terminals_are_not_taken_for_what_they_are_not \
+    runs_are_not_written_to_a_terminal \
     a_closed_pipe_ends_a_call_without_a_word

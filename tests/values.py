@@ -38,7 +38,15 @@ def of_answers(lines, value_of):
 # ---- the table of pointers
 
 
+def is_misspelt(line):
+    return line[0].startswith((b"no slash", b"bad escape"))
+
+
 def of_text(settings, repeated, text, lines):
+    for answer, pointer in filter(is_misspelt, lines):
+        told = b"jx: %s: %s%s\n" % (pointer, answer, b": a FILE stands behind --file" if answer == b"no slash" else b"")
+        same("a word %r that is no pointer" % pointer, (b"", told, 2), written(text, [], [b"", pointer]))
+    lines = [line for line in lines if not is_misspelt(line)]
     words = ["--ignore-bom"] if settings == b"b" else []
     pointers = [pointer for _, pointer in lines]
     wanted = of_answers(lines, lambda kind, start, end: text[start:end])
@@ -58,7 +66,7 @@ def table():
             texts.append((settings, repeated, spelt(text), []))
         elif line.startswith(b"refused "):
             answer, _, text = line.removeprefix(b"refused ").partition(b":")
-            same("no value of %r" % text, (b"", b"jx: %s\n" % answer, 1), written(spelt(text), [], [b"", b"x", b"/0"]))
+            same("no value of %r" % text, (b"", b"jx: %s\n" % answer, 1), written(spelt(text), [], [b"", b"/x", b"/0"]))
         elif line and not line.startswith(b"#"):
             answer, _, pointer = line.partition(b":")
             texts[-1][3].append((answer, spelt(pointer)))

@@ -28,9 +28,9 @@ each_pointer_has_its_line() {
     same 'a line for each pointer, in order' "$(lines 'status 0' 'out: 2' 'out: 1')" "$(said '{"a":1,"b":2}' get /b /a)"
     same 'bytes as they stand' "$(lines 'status 0' 'out: "\u0061\/"')" "$(said '{"a" : "\\u0061\\/" }' get /a)"
     same 'line ends between tokens stay' "$(lines 'status 0' 'out: [1,' 'out: 2]')" "$(said '{"a": [1,\n2]}' get /a)"
-    same 'no pointer leads to a value' "$(lines 'status 1' 'out: ' 'out: ' 'err: jx: /c: no such member at token 0' 'err: jx: c: no slash')" \
-        "$(said '{"a":1}' get /c c)"
-    same 'a refused text' "$(lines 'status 1' 'err: jx: stopped at 3')" "$(said '[1 2]' get /0 x)"
+    same 'no pointer leads to a value' "$(lines 'status 1' 'out: ' 'out: ' 'err: jx: /c: no such member at token 0' 'err: jx: /a/0: not a container at token 1')" \
+        "$(said '{"a":1}' get /c /a/0)"
+    same 'a refused text' "$(lines 'status 1' 'err: jx: stopped at 3')" "$(said '[1 2]' get /0 /x)"
     same 'a text that ends early' "$(lines 'status 1' 'err: jx: truncated')" "$(said '[1' get /0)"
     same 'a text that is too deep' "$(lines 'status 1' 'err: jx: too deep at 1')" "$(said '[[1]]' get --depth 1 /0)"
     same 'a name that comes again' "$(lines 'status 1' 'out: ' 'err: jx: /a: name repeated at token 0')" "$(said '{"a":1,"a":2}' get /a)"
@@ -257,7 +257,7 @@ each_line_has_its_values() {
         "$(said '\357\273\277[1]\n\357\273\277[2]\n' get --lines --ignore-bom /0)"
     same 'a mark that is refused' "$(lines 'status 1' 'out: ' 'err: jx: line 1: stopped at 0')" "$(said '\357\273\277[1]\n' get --lines /0)"
     same 'no line' 'status 0' "$(said '' get --lines /a)"
-    same 'a word that is no pointer' "$(lines 'status 2' 'err: jx: a: no slash')" "$(said '{"a":1}\n' get --lines /a a)"
+    same 'a word that is no pointer' "$(lines 'status 2' 'err: jx: a: no slash: a FILE stands behind --file')" "$(said '{"a":1}\n' get --lines /a a)"
     same 'a pointer with a bad escape' "$(lines 'status 2' 'err: jx: /~2: bad escape at 1')" "$(said '1\n' get --lines '/~2')"
     has 'not with texts of strings' "'--lines' cannot be used with '--raw'" "$(said '1\n' get --lines -r '')"
     has 'not with unique names' "'--lines' cannot be used with '--unique-names'" "$(said '1\n' get --lines --unique-names '')"

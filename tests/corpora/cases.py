@@ -7,6 +7,7 @@ the table `open` beside this file says what jx says. The plain readers say at wh
 import ast
 import json
 import pathlib
+import re
 import subprocess
 import sys
 import tempfile
@@ -98,7 +99,10 @@ class Cases:
             run = subprocess.run([self.program, "at", "--", pointer], input=text, capture_output=True)
             verdict, rows = self.readers.read(text, settings)
             answer = self.readers.find(text, rows, verdict, pointer)
+            # A word that is no pointer is a fault of the call.
             line = run.stdout.decode().rstrip("\n")
+            if run.returncode == 2:
+                line = re.search(r"(no slash|bad escape at \d+)(: a FILE stands behind --file)?\n$", run.stderr.decode(errors="replace"))[1]
             self.judge(name, wanted, line == str(answer), not line.startswith(("no slash", "bad escape")))
 
 

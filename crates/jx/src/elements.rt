@@ -3,6 +3,7 @@ ghost use Rattle.jx_index.specs.Pointers.{IsPointer};
 
 use crate::fault::Fault;
 use crate::input::{fault_of_report, open_watched};
+use crate::misplaced::refuse_path;
 use crate::output::Output;
 use jx_command::EachOrder;
 use jx_crew::{Crew, OpenGate};
@@ -21,6 +22,7 @@ pub fn write_elements_of<R: Threads + Wait + Sync>(
     threads: &R,
     order: &EachOrder<'_>,
 ) -> Result<Status, Fault> {
+    refuse_path(rt, order.input, order.pointer)?;
     match Pointer::read(order.pointer) {
         Ok(_) => write_elements(rt, threads, order),
         Err(fault) => Err(Fault::Pointer(fault)),

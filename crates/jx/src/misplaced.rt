@@ -1,25 +1,25 @@
-// A file that stands where a pointer should.
+// Words that stand where a pointer should, and are none, or may be a file.
 use crate::fault::Fault;
 use crate::input::told_of;
 use jx_command::{Input, Inputs};
 use jx_files::FileFault;
+use jx_index::{Pointer, PointerFault};
 use jx_task::Task;
 use std::fs;
-use std::io::IsTerminal;
 
-/// Whether a word is no pointer, and names a file.
-fn is_file(rt: &HostRuntime, word: &str) -> bool {
-    !word.is_empty() && !word.starts_with('/') && fs::metadata(rt, word).is_ok()
-}
-
-/// Refuses words for pointers one of which is none and names a file, where a terminal would be read: the file was meant to be read.
-pub fn refuse_misplaced(rt: &HostRuntime, input: Input<'_>, words: &[String]) -> Result<(), Fault> {
-    if !matches!(input, Input::Standard) || !rt.stdin().is_terminal() {
-        return Ok(());
-    }
+/// Refuses words for pointers one of which is none, before anything is read. Mostly it is the name of a file.
+pub fn refuse_misplaced(rt: &HostRuntime, words: &[String]) -> Result<(), Fault> {
     for word in words {
-        if is_file(rt, word.as_str()) {
-            return Err(told_of(rt, Input::File(word.as_str()), FileFault::Misplaced));
+        match Pointer::read(word.as_str()) {
+            Ok(_) => (),
+            Err(PointerFault::NoSlash) => {
+                let file = Input::File(word.as_str());
+                return Err(told_of(rt, file, FileFault::NoPointer));
+            }
+            Err(fault) => {
+                let word = String::from_str(rt.alloc(), word.as_str())?;
+                return Err(Fault::Misspelt(word, fault));
+            }
         }
     }
     Ok(())
@@ -32,7 +32,22 @@ pub fn refuse_misplaced_in(
     task: &Task,
 ) -> Result<(), Fault> {
     match (inputs, task) {
-        (Inputs::One(input), Task::At(words)) => refuse_misplaced(rt, *input, words),
+        (Inputs::One(_), Task::At(words)) => refuse_misplaced(rt, words),
+        _ => Ok(()),
+    }
+}
+
+/// Refuses a word that is a pointer and names a file, where standard input would be read: the file may be meant.
+pub fn refuse_path(rt: &HostRuntime, input: Input<'_>, pointer: &str) -> Result<(), Fault> {
+    if !matches!(input, Input::Standard) || !pointer.starts_with('/') {
+        return Ok(());
+    }
+    match fs::metadata(rt, pointer) {
+        Ok(found) if found.is_file() => Err(told_of(
+            rt,
+            Input::File(pointer),
+            FileFault::PointerOrFile,
+        )),
         _ => Ok(()),
     }
 }

@@ -62,7 +62,7 @@ pub fn write_values_of<R: Threads + Wait + Sync>(
         is_raw,
         by_line,
     } = order;
-    refuse_misplaced(rt, input, &task.pointers)?;
+    refuse_misplaced(rt, &task.pointers)?;
     if let Some(path) = pointers {
         let lines = text_of(rt, path)?;
         task.add_pointers(rt.alloc(), lines.as_str())?;

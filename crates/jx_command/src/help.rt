@@ -113,11 +113,12 @@ begins at 0. The runs have to cover all of it.";
 pub const WORKERS: &str = "Share the work among N workers, 1 to 64";
 
 pub const LONG_WORKERS: &str = "Share the work among N workers, 1 to 64. The answer is the same for
-every number. For check, explain and seq they read what is a MiB or
-longer, for each and lines what one read gives, if it is as long; for
-at and get they look up many pointers: 10000, and one for each 128
-bytes of text. One worker reads the text for index, at and get, and
-wherever a text has --unique-names, and looks up by --index.";
+every number. Workers share a text of explain from a MiB on, the
+input of check and seq from 5.25 MiB on, and what one read gives of
+each and lines from a MiB on. For at and get they look up many
+pointers: 10000, and one for each 128 bytes of text. One worker
+reads the text for index, at and get, and wherever a text has
+--unique-names, and looks up by --index.";
 
 pub const PIECE: &str = "Let a worker draw N bytes at a time";
 
@@ -342,8 +343,9 @@ Of a text that is refused, one line as by 'jx check'.
 
 Exit status: 0 all found, 1 refused or not all found, 2 no answer.
 
-The text is read once, in constant memory; with --unique-names the names of
-open objects are kept. With 10000 pointers or more the whole input is held.
+The text is read once, batch by batch. Two batches are held, with one worker
+one, and with --unique-names the names of open objects. With 10000 pointers or
+more the whole input is held.
 
 With --index the index is held, and of the text a chunk at a time. There is no
 output where the bytes of a chunk that is read have changed, where the text

@@ -1,7 +1,7 @@
 -- What is told of a fault.
 use Rattle.std.specs.Prelude.{ℕ, List, [], ◌∷◌, ◌++◌, ◌==◌, codes, if◌then◌else◌}
 use Rattle.jx_files.specs.declared.file_fault.FileFault.{FileFault}
-use Rattle.jx_files.specs.declared.file_fault.FileFault.TheVariants.{Folder, Open, Read, Memory, Pieces, Misplaced}
+use Rattle.jx_files.specs.declared.file_fault.FileFault.TheVariants.{Folder, Open, Read, Memory, Pieces, NoPointer, PointerOrFile}
 use Rattle.jx_files.specs.declared.reason.Reason.{Reason}
 use Rattle.jx_files.specs.declared.reason.Reason.TheVariants as reason
 use Rattle.jx_files.specs.Naming.{shown}
@@ -26,7 +26,8 @@ fault_head (Open why) = codes "cannot open"
 fault_head (Read why) = codes "read failed"
 fault_head Memory = codes "out of memory"
 fault_head Pieces = codes "too many pieces"
-fault_head Misplaced = codes "a file and no pointer: write --file in front of it"
+fault_head NoPointer = codes "no slash: a FILE stands behind --file"
+fault_head PointerOrFile = codes "names a file: write jx each '' FILE, or jx each POINTER FILE"
 
 -- the system's reason
 abbrev pub fault_reason : FileFault → Reason

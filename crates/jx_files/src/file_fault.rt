@@ -16,8 +16,10 @@ pub enum FileFault {
     Memory,
     /// It has more than 4,294,967,295 pieces.
     Pieces,
-    /// It is named where a pointer should stand.
-    Misplaced,
+    /// It stands where a pointer should, and begins with no slash (RFC 6901, section 3).
+    NoPointer,
+    /// It is the one word of a call that takes a pointer and a file, and both.
+    PointerOrFile,
 }
 
 impl FileFault {
@@ -31,7 +33,10 @@ impl FileFault {
             FileFault::Read(_) => "read failed",
             FileFault::Memory => "out of memory",
             FileFault::Pieces => "too many pieces",
-            FileFault::Misplaced => "a file and no pointer: write --file in front of it",
+            FileFault::NoPointer => "no slash: a FILE stands behind --file",
+            FileFault::PointerOrFile => {
+                "names a file: write jx each '' FILE, or jx each POINTER FILE"
+            }
         }
     }
 
@@ -41,7 +46,8 @@ impl FileFault {
     {
         match self {
             FileFault::Open(reason) | FileFault::Read(reason) => reason.told(),
-            FileFault::Folder | FileFault::Memory | FileFault::Pieces | FileFault::Misplaced => "",
+            FileFault::Folder | FileFault::Memory | FileFault::Pieces => "",
+            FileFault::NoPointer | FileFault::PointerOrFile => "",
         }
     }
 }
