@@ -1,7 +1,8 @@
 """Pointers and parts by saved indexes, through the library: what `jx.open` of the package for Python answers is what a plain reader does that is
 written from RFC 8259 and RFC 6901 alone. Each random text has two indexes, one of them with tables of names, in chunks from 64 bytes. Then bytes
 of the text or of an index are others, are cut off, or are those of another text: the answer is that on the text that was indexed, or the fault
-is told by its name. `json` reads each text too, and its values are those of the plain reader. The last line is `N passed, M failed`.
+is told by its name. `json` reads each text too, and its values are those of the plain reader. Views of containers are mappings and sequences of
+these values, whatever counts as few bytes. The last line is `N passed, M failed`.
 
     by_library.py SEED COUNT    so many random texts
 """
@@ -14,6 +15,7 @@ import sys
 
 import jx
 import saved
+from jx import _children, _views
 from jx._saved import SavedText, _index_of
 from jx._library import settings
 
@@ -338,8 +340,90 @@ def of_a_damaged_index(rng, case):
     holds(isinstance(told, (jx.BadIndex, jx.Stale)), "another size in the head", case.text, told)
 
 
+# What counts as small, near and large, and by how many elements and bytes arrays are looked up.
+USUAL = (_views._SMALL, _views._NEAR, _views.LARGE, _views._FEW, _views._RUN)
+LIMITS = (USUAL, (16, 16, 64, 2, 60), (1, 1, 1, 1, 20), (10, 40, 1000, 3, 200), (1, 30, 100, 16, 4000))
+FAULTS = {NO_SUCH_MEMBER: jx.NoSuchMember, NAME_REPEATED: jx.NameRepeated}
+
+
+def limit(small, near, large, few, run):
+    _views._SMALL, _views._NEAR, _views._FEW, _views._RUN = small, near, few, run
+    _views.LARGE = _children.LARGE = large
+
+
+def shown(value):
+    """A value that a view gave: the span of a container."""
+    return (value.span, int(value.kind)) if isinstance(value, jx.View) else value
+
+
+def wanted_of(case, node):
+    return ((node.start, node.end), node.kind) if node.kind in (OBJECT, ARRAY) else json.loads(case.text[node.start:node.end])
+
+
+def tried(call):
+    """What a call gives, or the kind of what it raises."""
+    try:
+        return shown(call())
+    except jx.NotFound as fault:
+        return type(fault)
+
+
+def by_views(rng, case):
+    """Views of all containers, from the root down, each by the view of what it stands in."""
+    limit(*rng.choice(LIMITS))
+    try:
+        with jx.open(io.BytesIO(case.text), rng.choice(case.indexes)) as root:
+            waiting = [(root, case.root)]
+            while waiting:
+                view, node = waiting.pop()
+                given = of_object(rng, case, view, node) if node.kind == OBJECT else of_array(rng, case, view, node)
+                waiting += [(one, child) for one, (_, child, _) in zip(given, node.children) if child.kind in (OBJECT, ARRAY)]
+    finally:
+        limit(*USUAL)
+
+
+def of_object(rng, case, view, node):
+    """Looks whether a view is the mapping that an object is, and gives its values."""
+    if node.kind != OBJECT:
+        holds(view.load() == wanted_of(case, node), "a scalar", case.text)
+        return []
+    names = [name for name, _, _ in node.children]
+    right = [wanted_of(case, child) for _, child, _ in node.children]
+    holds((list(view), len(view)) == (names, len(names)), "names of an object", case.text, node.start, names)
+    given = list(view.values())
+    holds([shown(one) for one in given] == right, "values of an object", case.text, node.start, right)
+    for name in rng.sample(names, min(len(names), 8)) + [rng.choice(("", "a", "\ud800", "\udc00b", "none", "/", "~0"))]:
+        outcome, child = step(node, name)
+        wanted = wanted_of(case, child) if outcome == FOUND else FAULTS[outcome]
+        told = tried(lambda: view[name])
+        holds(told == wanted, "a member", case.text, node.start, name, wanted, told)
+        holds((name in view) == (outcome != NO_SUCH_MEMBER), "whether there is a member", case.text, node.start, name)
+    if len(set(names)) == len(names):
+        holds({name: shown(one) for name, one in dict(view).items()} == dict(zip(names, right)), "a dict of it", case.text, node.start)
+    return given
+
+
+def of_array(rng, case, view, node):
+    """Looks whether a view is the sequence that an array is, and gives its elements."""
+    if node.kind != ARRAY:
+        return of_object(rng, case, view, node)
+    right = [wanted_of(case, child) for _, child, _ in node.children]
+    given = list(view)
+    holds([shown(one) for one in given] == right, "elements of an array", case.text, node.start, right)
+    holds(len(view) == len(right), "how many elements", case.text, node.start, len(right))
+    places = slice(*(rng.choice((None, rng.randrange(-9, 9), rng.randrange(-60, 60))) for _ in range(2)), rng.choice((None, 1, 2, 7, 9, -1, -3, -20)))
+    holds([shown(one) for one in view[places]] == right[places], "a slice", case.text, node.start, places, right)
+    for place in rng.choice((range(len(right)), rng.sample(range(len(right)), min(len(right), 5)))):
+        told = tried(lambda: view[place])
+        holds(told == right[place], "an element", case.text, node.start, place, right[place], told)
+    holds(tried(lambda: view[len(right)]) is jx.PastEnd, "past the end", case.text, node.start)
+    return given
+
+
 def in_one_text(rng, case, last):
     as_it_is(rng, case)
+    if rng.random() < 0.05:
+        by_views(rng, case)
     if rng.random() < 0.1:
         json_reads_the_same(rng, case)
         of_a_damaged_index(rng, case)

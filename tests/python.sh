@@ -55,6 +55,15 @@ a_wrong_answer_by_an_index_is_told() {
     has 'a wrong answer is told' 'by_library.py: FAILED: pointers: ' "$(JX_LIBRARY=${JX_LIBRARY:-$root/crates/jx_c/out/libjx.so.0} JX_PYTHON=ctypes PYTHONPATH=$room/wrong "$python" "$root/tests/by_library.py" 1 20 2>&1)"
 }
 
+a_wrong_value_of_a_view_is_told() {
+    rm -rf wrong
+    mkdir wrong
+    cp -R "$root/bindings/python/jx" wrong
+    sed -i 's/return (1, 0, 2)\[outcome\]/return (1, 0, 1)[outcome]/' wrong/jx/_children.py
+    same 'the copy differs' yes "$(cmp -s wrong/jx/_children.py "$root/bindings/python/jx/_children.py" || echo yes)"
+    has 'a wrong value is told' 'by_library.py: FAILED: a member: ' "$(JX_LIBRARY=${JX_LIBRARY:-$root/crates/jx_c/out/libjx.so.0} JX_PYTHON=ctypes PYTHONPATH=$room/wrong "$python" "$root/tests/by_library.py" 1 1000 2>&1)"
+}
+
 the_samples_of_the_pages_run() {
     local page
     for page in PYTHON RECIPES; do
@@ -115,6 +124,7 @@ if "$root/tools/library" >built 2>&1; then
     tests the_tests_of_the_package_pass \
         saved_texts_are_as_a_plain_reader_reads_them \
         a_wrong_answer_by_an_index_is_told \
+        a_wrong_value_of_a_view_is_told \
         the_samples_of_the_pages_run \
         the_loader_of_the_page_loads \
         the_types_are_accepted \

@@ -21,6 +21,7 @@
 /* What the package handed in. */
 static struct {
     __typeof__(&jx_check_non_null) check;
+    __typeof__(&jx_compact_non_null) compact;
     __typeof__(&jx_at_non_null) at;
     __typeof__(&jx_index_new_non_null) index_new;
     __typeof__(&jx_index_find_non_null) index_find;
@@ -113,6 +114,38 @@ static PyObject *verdict(PyObject *Py_UNUSED(module), PyObject *const *words, Py
     }
     PyBuffer_Release(&held);
     return status == JX_OK ? told(&answer) : fault(status);
+}
+
+/* compact(data, depth, ignore_bom, unique_names): the compact form of a text, or the verdict on what is none. */
+static PyObject *compact(PyObject *Py_UNUSED(module), PyObject *const *words, Py_ssize_t count) {
+    jx_settings settings;
+    jx_verdict answer;
+    Py_buffer held;
+    PyObject *form = NULL;
+    uint8_t *room;
+    size_t size = 0;
+    uint32_t status;
+    if (!are_words(count, 4) || read_settings(words + 1, &settings) < 0 || hold(words[0], &held) < 0) return NULL;
+    room = PyMem_Malloc((size_t)held.len);
+    if (room == NULL) {
+        PyBuffer_Release(&held);
+        return PyErr_NoMemory();
+    }
+    if (held.len < WORTH_A_SWITCH) {
+        status = library.compact(bytes_of(&held), (size_t)held.len, &settings, room, (size_t)held.len, &size, &answer);
+    } else {
+        Py_BEGIN_ALLOW_THREADS
+        status = library.compact(bytes_of(&held), (size_t)held.len, &settings, room, (size_t)held.len, &size, &answer);
+        Py_END_ALLOW_THREADS
+    }
+    PyBuffer_Release(&held);
+    if (status != JX_OK) {
+        fault(status);
+    } else {
+        form = answer.kind == JX_ACCEPTED ? PyBytes_FromStringAndSize((const char *)room, (Py_ssize_t)size) : told(&answer);
+    }
+    PyMem_Free(room);
+    return form;
 }
 
 static PyObject *at(PyObject *Py_UNUSED(module), PyObject *const *words, Py_ssize_t count) {
@@ -430,6 +463,7 @@ static PyObject *bind(PyObject *Py_UNUSED(module), PyObject *const *words, Py_ss
 static PyMethodDef methods[] = {
     {"bind", (PyCFunction)(void (*)(void))bind, METH_FASTCALL, NULL},
     {"verdict", (PyCFunction)(void (*)(void))verdict, METH_FASTCALL, NULL},
+    {"compact", (PyCFunction)(void (*)(void))compact, METH_FASTCALL, NULL},
     {"at", (PyCFunction)(void (*)(void))at, METH_FASTCALL, NULL},
     {"index", (PyCFunction)(void (*)(void))index_of, METH_FASTCALL, NULL},
     {NULL, NULL, 0, NULL},

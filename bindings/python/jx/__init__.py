@@ -29,7 +29,10 @@ from ._runs import NoRun, NotARun, NotNeighbours, OtherDepth, Run
 from ._saved import save
 from ._texts import Reader, check, check_file, compact, verdict
 from ._values import ValueReader, each, each_file
-from ._views import ArrayView, Elements, ObjectView, Part, View, open
+from ._views import ArrayView, Elements, ObjectView, Part, View
+
+# Not in `__all__`: by `from jx import *` it would take the place of the builtin.
+from ._views import open as open
 
 __version__ = version()
 __all__ = [
@@ -84,7 +87,6 @@ __all__ = [
     "lines",
     "lines_file",
     "loads",
-    "open",
     "save",
     "verdict",
 ]

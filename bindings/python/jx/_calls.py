@@ -20,6 +20,21 @@ def verdict(data: Buffer, depth: int, ignore_bom: bool, unique_names: bool) -> O
     return None if answer.kind == 0 else (answer.kind, answer.offset)
 
 
+def compact(data: Buffer, depth: int, ignore_bom: bool, unique_names: bool) -> Union[bytes, Tuple[int, int]]:
+    """The compact form of a text, or the verdict on what is none."""
+    asked = settings(depth, ignore_bom, unique_names)
+    answer, count = CVerdict(), ctypes.c_size_t()
+    with held(data) as (address, size):
+        # Memory that `ctypes` cannot have is a MemoryError.
+        room = ctypes.create_string_buffer(max(size, 1))
+        done(
+            LIBRARY.jx_compact_non_null(
+                address, size, ctypes.byref(asked), room, size, ctypes.byref(count), ctypes.byref(answer)
+            )
+        )
+    return (answer.kind, answer.offset) if answer.kind != 0 else ctypes.string_at(room, count.value)
+
+
 def at(data: Buffer, pointer: str, depth: int, ignore_bom: bool, unique_names: bool) -> Tuple[int, int, int, int]:
     """What a pointer leads to: the outcome, the number or offset that goes with it, and where the value starts and ends."""
     asked = settings(depth, ignore_bom, unique_names)

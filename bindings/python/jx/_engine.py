@@ -11,10 +11,11 @@ from typing import TYPE_CHECKING
 
 from ._library import LIBRARY
 
-__all__ = ["IS_NATIVE", "Rows", "at", "index", "verdict"]
+__all__ = ["IS_NATIVE", "Rows", "at", "compact", "index", "verdict"]
 
 _BOUND = (
     "jx_check_non_null",
+    "jx_compact_non_null",
     "jx_at_non_null",
     "jx_index_new_non_null",
     "jx_index_find_non_null",
@@ -24,14 +25,14 @@ _BOUND = (
 
 IS_NATIVE = False
 if TYPE_CHECKING:
-    from ._native import Rows, at, index, verdict
+    from ._native import Rows, at, compact, index, verdict
 else:
     try:
         if os.environ.get("JX_PYTHON") == "ctypes" or sys.version_info < (3, 11):
             raise ImportError("by ctypes")
-        from ._native import Rows, at, bind, index, verdict
+        from ._native import Rows, at, bind, compact, index, verdict
     except ImportError:
-        from ._calls import Rows, at, index, verdict
+        from ._calls import Rows, at, compact, index, verdict
     else:
         bind(*(ctypes.cast(getattr(LIBRARY, name), ctypes.c_void_p).value for name in _BOUND))
         IS_NATIVE = True

@@ -68,10 +68,14 @@ class Refused(ValueError):
     """The bytes are not a text that is accepted.
 
     `offset` counts bytes from 0. `lineno` and `colno` count lines and characters from 1, as `json.JSONDecodeError` does; both
-    are None where the bytes in front are gone. A text that ends too early has the offset of its end.
+    are None where the bytes in front are gone. A text that ends too early has the offset of its end. `filename` is the path of a file
+    that was checked, and else None.
     """
 
-    def __init__(self, verdict: Verdict, offset: Optional[int], place: Optional[tuple[int, int]]):
+    def __init__(
+        self, verdict: Verdict, offset: Optional[int], place: Optional[tuple[int, int]], filename: Optional[str] = None
+    ):
+        self.filename = filename
         self.verdict = verdict
         self.kind = verdict.kind
         self.offset = offset
@@ -86,7 +90,11 @@ class Refused(ValueError):
 
     def __reduce__(self) -> Any:
         place = None if self.lineno is None else (self.lineno, self.colno)
-        return type(self), (self.verdict, self.offset, place)
+        return type(self), (self.verdict, self.offset, place, self.filename)
+
+    def __str__(self) -> str:
+        said = super().__str__()
+        return said if self.filename is None else "%s: %s" % (self.filename, said)
 
 
 class Place:

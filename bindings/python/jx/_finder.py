@@ -1,14 +1,15 @@
 """Values by JSON Pointer in a text that comes chunk by chunk."""
 from __future__ import annotations
 
+import contextlib
 import ctypes
-import io
 import os
 import threading
 import weakref
-from typing import Any, BinaryIO, Iterable, Iterator, List, NamedTuple, Tuple, TypeVar, Union, overload
+from typing import Any, BinaryIO, Iterable, List, NamedTuple, Tuple, TypeVar, Union, overload
 
 from . import _faults
+from ._chunks import chunks_of, read_much
 from ._faults import Kind, Refused, Verdict
 from ._find import NO_TEXT, RAISE, spelt_pointer
 from ._index import ValueKind
@@ -16,7 +17,6 @@ from ._library import DEPTH_DEFAULT, LIBRARY, Buffer, CAnswer, CFinder, CPointer
 
 T = TypeVar("T")
 _FOUND = 0
-_STEP = 1 << 20
 
 
 class Found(NamedTuple):
@@ -128,35 +128,14 @@ def find_file(
 ) -> List[Any]:
     """What pointers lead to in a file, by its path or open for reading bytes, or in any chunks of bytes: in constant memory.
 
-    The values are spans: `file.seek(found.start)` leads to the first byte of one. The words are those of `Finder`, and the file's own
-    faults are raised where they happen.
+    The values are spans: `file.seek(found.start)` leads to the first byte of one. The words are those of `Finder`. The file's own
+    faults are raised where they happen, and a `BlockingIOError` where it does not block and has no bytes yet.
     """
     finder = Finder(pointers, depth=depth, ignore_bom=ignore_bom)
-    for chunk in _chunks_of(file):
-        finder.feed(chunk)
+    with contextlib.closing(chunks_of(file, read_much)) as chunks:
+        for chunk in chunks:
+            finder.feed(chunk)
     return finder.end(default)
-
-
-def _chunks_of(file: Any) -> Iterator[Buffer]:
-    if isinstance(file, (str, bytes, os.PathLike)):
-        with open(file, "rb", buffering=0) as opened:
-            yield from _chunks(opened)
-    elif isinstance(file, io.TextIOBase):
-        raise TypeError("jx reads bytes: open the file with mode 'rb'")
-    elif hasattr(file, "read"):
-        yield from _chunks(file)
-    else:
-        yield from file
-
-
-def _chunks(file: Any) -> Iterator[bytes]:
-    while True:
-        chunk = file.read(_STEP)
-        if isinstance(chunk, str):
-            raise TypeError("jx reads bytes: open the file with mode 'rb'")
-        if not chunk:
-            return
-        yield chunk
 
 
 def _free(finder: CFinder, _spelt: Any, _words: List[bytes]) -> None:

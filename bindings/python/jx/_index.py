@@ -118,9 +118,9 @@ class Index:
 class Value:
     """A value of an indexed text.
 
-    Iteration goes over its children, in order: an array's elements, or the values of an object's members. `len` counts them.
-    `value[2]` and `value[-1]` are elements of an array, `value[1:3]` a list of them, and `value["name"]` is a member of an object.
-    Two are equal if they are the same value of the same index. `bytes(value)` copies its bytes.
+    Iteration goes over an array's elements, or over the names of an object, whose members' values are those of `values` and `items`. `len`
+    counts them. `value[2]` and `value[-1]` are elements of an array, `value[1:3]` a list of them, and `value["name"]` is a member of an
+    object. Two are equal if they are the same value of the same index. `bytes(value)` copies its bytes.
     """
 
     __slots__ = ("_index", "number", "_way")
@@ -250,10 +250,27 @@ class Value:
         if told is not None:
             return told
         wanted = _units(name)
-        same = [child.number for child in self if _units(child.name or "") == wanted]
+        same = [child.number for child in self._children() if _units(child.name or "") == wanted]
         return (same[0], len(same)) if same else (0, 0)
 
-    def __iter__(self) -> Iterator[Value]:
+    def __iter__(self) -> Iterator[Any]:
+        return iter(self.keys()) if self._index._rows.kind(self.number) == _OBJECT else self._children()
+
+    def keys(self) -> List[str]:
+        """The names of an object's members, in order, also those that are repeated."""
+        return [child.name or "" for child in self.values()]
+
+    def values(self) -> List[Value]:
+        """The values of an object's members, in order."""
+        if self._index._rows.kind(self.number) != _OBJECT:
+            raise TypeError("only an object has members")
+        return list(self._children())
+
+    def items(self) -> List[Tuple[str, Value]]:
+        """Names and values of an object's members, in order."""
+        return [(child.name or "", child) for child in self.values()]
+
+    def _children(self) -> Iterator[Value]:
         index, number, child = self._index, self.number, self._index._rows.child
         return (Value(index, child(number, place)) for place in range(index._rows.count(number)))
 

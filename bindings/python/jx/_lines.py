@@ -1,14 +1,15 @@
 """JSON Lines, also called NDJSON."""
 from __future__ import annotations
 
+import contextlib
 import ctypes
 import dataclasses
 import os
 import threading
 import weakref
-from typing import Any, BinaryIO, Iterable, Iterator, List, Optional, Tuple, Union
+from typing import Any, BinaryIO, Generator, Iterable, Iterator, List, Optional, Tuple, Union
 
-from ._chunks import chunks_of, slices
+from ._chunks import Chunks, chunks_of, slices
 from ._faults import Kind, Verdict
 from ._library import DEPTH_DEFAULT, LIBRARY, Buffer, CLine, CLineCounts, CLines, Status, done, held, settings, view
 
@@ -122,11 +123,16 @@ class LineReader:
 
 
 class Lines(Iterator[Line]):
-    """The lines that are no texts, in order, each as soon as it was read. `accepted`, `refused` and `blank` count what was read."""
+    """The lines that are no texts, in order, each as soon as it was read. `accepted`, `refused` and `blank` count what was read.
 
-    def __init__(self, chunks: Iterator[Buffer], depth: int, ignore_bom: bool, skip_blank: bool):
+    A file that was opened by its path is closed behind the last line, by `close`, at the end of a `with`, or once nothing refers to the
+    lines.
+    """
+
+    def __init__(self, chunks: Chunks, depth: int, ignore_bom: bool, skip_blank: bool):
         self._reader = LineReader(depth=depth, ignore_bom=ignore_bom)
-        self._told = self._tell(chunks, skip_blank)
+        # It does not refer to this object, which so is gone, with its file, once the last reference to it is.
+        self._told = _told(self._reader, chunks, skip_blank)
 
     def __iter__(self) -> Lines:
         return self
@@ -149,14 +155,26 @@ class Lines(Iterator[Line]):
         """How many lines have no byte, or blanks alone, of what was read."""
         return self._reader.blank
 
-    def _tell(self, chunks: Iterator[Buffer], skip_blank: bool) -> Iterator[Line]:
+    def close(self) -> None:
+        """Ends the reading. The counts stay."""
+        self._told.close()
+
+    def __enter__(self) -> Lines:
+        return self
+
+    def __exit__(self, *_: object) -> None:
+        self.close()
+
+
+def _told(reader: LineReader, chunks: Chunks, skip_blank: bool) -> Generator[Line, None, None]:
+    with contextlib.closing(chunks):
         for chunk in chunks:
-            for line in self._reader.feed(chunk):
+            for line in reader.feed(chunk):
                 if not (skip_blank and line.kind is Kind.BLANK):
                     yield line
-        for line in self._reader.end():
-            if not (skip_blank and line.kind is Kind.BLANK):
-                yield line
+    for line in reader.end():
+        if not (skip_blank and line.kind is Kind.BLANK):
+            yield line
 
 
 def lines(data: Buffer, *, depth: int = DEPTH_DEFAULT, ignore_bom: bool = False, skip_blank: bool = False) -> Lines:
@@ -173,6 +191,7 @@ def lines_file(
 ) -> Lines:
     """The same of a file, by its path or open for reading bytes, or of any chunks of bytes: in constant memory, while they are read.
 
-    Each line is told before more is waited for, as of a pipe or of `sys.stdin.buffer`. The file's own faults are raised where they happen.
+    Each line is told before more is waited for, as of a pipe or of `sys.stdin.buffer`. A path is opened with the first line. The file's own
+    faults are raised where they happen, and a `BlockingIOError` where it does not block and has no bytes yet.
     """
     return Lines(chunks_of(file), depth, ignore_bom, skip_blank)

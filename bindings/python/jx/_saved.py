@@ -3,15 +3,16 @@ from __future__ import annotations
 
 import builtins
 import collections
+import contextlib
 import ctypes
-import io
 import os
 import tempfile
 import threading
 import weakref
-from typing import Any, BinaryIO, Callable, Iterator, List, NamedTuple, NoReturn, Optional, Sequence, Tuple, Union
+from typing import Any, BinaryIO, Callable, Iterator, List, NoReturn, Optional, Sequence, Tuple, Union
 
-from ._chunks import chunks_of
+from ._children import Children, PartOf
+from ._chunks import bytes_of, chunks_of, refuse_words
 from ._faults import BadIndex, Changed, Kind, Refused, Stale, Verdict
 from ._find import spelt_pointer
 from ._library import (
@@ -30,13 +31,17 @@ from ._library import (
     done,
     held,
     settings,
+    view,
 )
 
 Path = Union[str, bytes, "os.PathLike[str]", "os.PathLike[bytes]"]
 CHUNK = 32768
 _STEP = 1 << 20
-# So many chunks that were read last are kept.
+# So many chunks that were read last are kept, and containers that were indexed last with so many values in all.
 _KEPT = 64
+_KEPT_VALUES = 1 << 18
+# Tables of names begin so (docs/FORMAT.md).
+_NAMES = b"\x89jxnam\n"
 _WRONG = {
     Status.NOT_SAVED: "not a saved index",
     Status.OTHER_VERSION: "another version",
@@ -67,14 +72,18 @@ def save(
     chunks of an object that may have the name. The answers are the same.
 
     The file is a path, or is open for reading bytes and then needs `index`. The index is written beside its place and renamed.
-    Raises `Refused`, without line and column, where the bytes are no text. A `chunk` has a power of two from 64 to 1,048,576 bytes.
+    Raises `Refused`, without line and column, where the bytes are no text, a `ValueError` where `index` is the file itself, and a
+    `BlockingIOError` where the file does not block and has no bytes yet. A `chunk` has a power of two from 64 to 1,048,576 bytes.
     """
     if index is None:
         if not isinstance(file, (str, bytes, os.PathLike)):
             raise TypeError("a file that is open has no place for its index: pass its path as `index`")
         index = index_path(file)
     place = os.fsdecode(index)
-    found = _index_of(chunks_of(file), settings(depth, ignore_bom, False), chunk, names)
+    if _is_at(file, place):
+        raise ValueError("%s is the text itself: its index needs another place" % place)
+    with contextlib.closing(chunks_of(file)) as chunks:
+        found = _index_of(chunks, settings(depth, ignore_bom, False), chunk, names)
     descriptor, name = tempfile.mkstemp(dir=os.path.dirname(place) or ".", prefix=".jx-")
     try:
         with builtins.open(descriptor, "wb") as new:
@@ -85,6 +94,16 @@ def save(
         os.unlink(name)
         raise
     return place
+
+
+def _is_at(file: Any, path: str) -> bool:
+    """Whether a path leads to the file."""
+    try:
+        text = os.stat(file) if isinstance(file, (str, bytes, os.PathLike)) else os.fstat(file.fileno())
+        return os.path.samestat(text, os.stat(path))
+    except (AttributeError, OSError, ValueError):
+        # One of them is no file of the operating system.
+        return False
 
 
 def _umask() -> int:
@@ -119,16 +138,6 @@ def _index_of(chunks: Iterator[Buffer], asked: Any, chunk: int, names: bool) -> 
         LIBRARY.jx_save_free_non_null(ctypes.byref(save))
 
 
-class PartOf(NamedTuple):
-    """A part of a container: its number, its span, its first child and the one behind its last."""
-
-    number: int
-    start: int
-    end: int
-    first: int
-    behind: int
-
-
 class SavedText:
     """A text that stays where it is, and its saved index. Chunks that are read are held to their digests."""
 
@@ -151,6 +160,10 @@ class SavedText:
         # One look-up at a time goes on by an index, and other threads of Python run during a call.
         self._lock = threading.Lock()
         self._chunks: collections.OrderedDict[int, bytes] = collections.OrderedDict()
+        self._indexed: collections.OrderedDict[Tuple[int, int, int], Children] = collections.OrderedDict()
+        self._indexed_values = 0
+        # Where the chunk stands that was read last, and its bytes.
+        self._last: Tuple[int, int, bytes] = (0, 0, b"")
         self._free = weakref.finalize(self, _free, self._saved, self._close)
         try:
             self._open(index)
@@ -170,6 +183,8 @@ class SavedText:
         done(LIBRARY.jx_saved_about_non_null(self._at_saved, ctypes.byref(about)))
         self.chunk: int = about.chunk
         self.depth: int = about.depth
+        # By tables of names a look-up reads a few chunks of an object, and else all of it.
+        self.has_names = _NAMES in (index if isinstance(index, bytes) else bytes(view(index)))
 
     @property
     def is_closed(self) -> bool:
@@ -178,8 +193,15 @@ class SavedText:
     def close(self) -> None:
         """Closes what was opened. Values can be read no more."""
         with self._lock:
-            self._chunks.clear()
+            self.forget()
             self._free()
+
+    def forget(self) -> None:
+        """Forgets what was read."""
+        self._chunks.clear()
+        self._indexed.clear()
+        self._indexed_values = 0
+        self._last = (0, 0, b"")
 
     def answers(self, pointers: Sequence[str]) -> List[Tuple[int, int, int, int, int]]:
         """For each pointer its outcome, the number that goes with it, and kind, start and end of the value."""
@@ -208,12 +230,49 @@ class SavedText:
 
     def read(self, start: int, end: int) -> bytes:
         """The bytes of a part of the text, as they were indexed."""
+        low, high, chunk = self._last
+        if low <= start and end <= high:
+            return chunk[start - low : end - low]
+        if end <= start:
+            return b""
+        first = start // self.chunk
+        low = first * self.chunk
+        if end - low <= self.chunk:
+            with self._lock:
+                chunk = self._kept(first)
+                if not self.is_closed:
+                    self._last = (low, low + len(chunk), chunk)
+            return chunk[start - low : end - low]
         if end - start <= 8 * self.chunk:
             with self._lock:
-                first = start // self.chunk
                 pieces = [self._kept(number) for number in range(first, -(-end // self.chunk))]
-            return b"".join(pieces)[start - first * self.chunk : end - first * self.chunk]
+            return b"".join(pieces)[start - low : end - low]
         return b"".join(self.pieces(start, end))
+
+    def children(self, start: int, end: int, first: int = -1) -> Children:
+        """The children of the container with this span. With `first` the elements of an array that have the span, from that number on.
+
+        What was indexed last is kept.
+        """
+        key = start, end, first
+        with self._lock:
+            found = self._indexed.get(key)
+            if found is not None:
+                self._indexed.move_to_end(key)
+                return found
+        data = self.read(start, end)
+        found = Children(data, start) if first < 0 else Children(b"[%b]" % data, start - 1, first)
+        with self._lock:
+            if key not in self._indexed and not self.is_closed:
+                self._indexed[key] = found
+                self._indexed_values += found.size
+                while self._indexed_values > _KEPT_VALUES and len(self._indexed) > 1:
+                    self._indexed_values -= self._indexed.popitem(last=False)[1].size
+        return found
+
+    def is_indexed(self, start: int, end: int) -> bool:
+        """Whether the children of the container with this span are kept."""
+        return (start, end, -1) in self._indexed
 
     def pieces(self, start: int, end: int) -> Iterator[bytes]:
         """The same, piece by piece."""
@@ -290,10 +349,13 @@ _Opened = Tuple[Callable[[int, int], bytes], Callable[[], None], int]
 
 def _by_path(path: str) -> _Opened:
     file = builtins.open(path, "rb", buffering=0)
-    size = file.seek(0, os.SEEK_END)
+    try:
+        size = _size_of(file)
+    except BaseException:
+        file.close()
+        raise
     if not hasattr(os, "pread"):
-        read, _, size = _by_object(file)
-        return read, file.close, size
+        return _by_object(file)[0], file.close, size
 
     def read_at(start: int, length: int) -> bytes:
         return _whole(lambda rest, behind: os.pread(file.fileno(), rest, start + behind), start, length)
@@ -302,10 +364,9 @@ def _by_path(path: str) -> _Opened:
 
 
 def _by_object(file: Any) -> _Opened:
-    if isinstance(file, io.TextIOBase):
-        raise TypeError("jx reads bytes: open the file with mode 'rb'")
+    refuse_words(file)
     lock = threading.Lock()
-    size = file.seek(0, os.SEEK_END)
+    size = _size_of(file)
 
     def read_at(start: int, length: int) -> bytes:
         with lock:
@@ -315,14 +376,19 @@ def _by_object(file: Any) -> _Opened:
     return read_at, lambda: None, size
 
 
+def _size_of(file: Any) -> int:
+    place = file.seek(0, os.SEEK_END)
+    # Up to Python 3.12 the `seek` of a map answers None.
+    return int(file.tell() if place is None else place)
+
+
 def _whole(read: Callable[[int, int], Any], start: int, length: int) -> bytes:
     """All bytes of a part, in as many reads as that takes."""
     pieces: List[bytes] = []
     behind = 0
     while behind < length:
-        piece = read(length - behind, behind)
-        if not isinstance(piece, bytes):
-            raise TypeError("jx reads bytes: open the file with mode 'rb'")
+        given = bytes_of(read(length - behind, behind))
+        piece = given if isinstance(given, bytes) else bytes(view(given))
         if not piece:
             _ended(start, length)
         pieces.append(piece)

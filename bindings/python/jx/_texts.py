@@ -5,13 +5,12 @@ import ctypes
 import io
 import mmap
 import os
-from typing import Any, BinaryIO, Iterator, Union
+from typing import Any, BinaryIO, Optional, Union
 
 from . import _engine
+from ._chunks import chunks_in, read_much, refuse_words
 from ._faults import ACCEPTED, Kind, Place, Refused, Verdict, refused_in
 from ._library import DEPTH_DEFAULT, LIBRARY, Buffer, CReader, CVerdict, done, held, settings, view
-
-_CHUNK = 1 << 20
 
 
 def verdict(data: Buffer, *, depth: int = DEPTH_DEFAULT, ignore_bom: bool = False, unique_names: bool = False) -> Verdict:
@@ -37,19 +36,10 @@ def compact(data: Buffer, *, depth: int = DEPTH_DEFAULT, ignore_bom: bool = Fals
     Each token keeps its bytes: no number, name or string is spelt anew. A byte order mark that is ignored is left out. It takes as much
     memory as the data beside the result.
     """
-    asked = settings(depth, ignore_bom, unique_names)
-    answer, count = CVerdict(), ctypes.c_size_t()
-    with held(data) as (address, size):
-        # Memory that `ctypes` cannot have is a MemoryError.
-        room = ctypes.create_string_buffer(max(size, 1))
-        done(
-            LIBRARY.jx_compact_non_null(
-                address, size, ctypes.byref(asked), room, size, ctypes.byref(count), ctypes.byref(answer)
-            )
-        )
-    if answer.kind != 0:
-        raise refused_in(view(data), Verdict._of(answer.kind, answer.offset))
-    return ctypes.string_at(room, count.value)
+    form = _engine.compact(data, depth, ignore_bom, unique_names)
+    if isinstance(form, tuple):
+        raise refused_in(view(data), Verdict._of(*form))
+    return form
 
 
 class Reader:
@@ -89,48 +79,59 @@ def check_file(
 ) -> None:
     """Checks a file, by its path or open for reading bytes, and raises `Refused`, or the file's own fault.
 
-    It takes constant memory. With `unique_names` it takes memory in proportion to the names of the objects that are open at once, and
-    what cannot be mapped into memory, as a pipe, is read whole.
+    It takes constant memory. With `unique_names` it takes memory in proportion to the names of the objects that are open at once. Then
+    what is no file of the operating system itself, as a pipe or an unpacker, is read whole, and such a file is mapped into memory.
+
+    `Refused` has the path as its `filename`. A file that does not block and has no bytes yet is a `BlockingIOError`.
     """
-    if isinstance(file, (str, bytes, os.PathLike)):
-        with open(file, "rb", buffering=0) as opened:
-            _check_open(opened, depth, ignore_bom, unique_names)
-    else:
-        _check_open(file, depth, ignore_bom, unique_names)
+    try:
+        if isinstance(file, (str, bytes, os.PathLike)):
+            with open(file, "rb", buffering=0) as opened:
+                _check_open(opened, depth, ignore_bom, unique_names)
+        else:
+            _check_open(file, depth, ignore_bom, unique_names)
+    except Refused as refused:
+        refused.filename = _path_of(file)
+        raise
+
+
+def _path_of(file: Any) -> Optional[str]:
+    """The path of a file, as far as it is known."""
+    path = file if isinstance(file, (str, bytes, os.PathLike)) else getattr(file, "name", None)
+    return os.fsdecode(path) if isinstance(path, (str, bytes, os.PathLike)) else None
 
 
 def _check_open(file: Any, depth: int, ignore_bom: bool, unique_names: bool) -> None:
-    if isinstance(file, io.TextIOBase):
-        raise TypeError("jx reads bytes: open the file with mode 'rb'")
-    start = file.tell() if hasattr(file, "seekable") and file.seekable() else None
+    refuse_words(file)
     if unique_names:
-        _check_mapped(file, start, depth, ignore_bom)
+        whole = _mapped(file)
+        check(b"".join(chunks_in(file, read_much)) if whole is None else whole, depth=depth, ignore_bom=ignore_bom, unique_names=True)
     else:
+        start = file.tell() if hasattr(file, "seekable") and file.seekable() else None
         _check_chunks(file, start, depth, ignore_bom)
 
 
-def _chunks(file: Any) -> Iterator[bytes]:
-    while True:
-        chunk = file.read(_CHUNK)
-        if isinstance(chunk, str):
-            raise TypeError("jx reads bytes: open the file with mode 'rb'")
-        if not chunk:
-            return
-        yield chunk
+def _mapped(file: Any) -> Optional[memoryview]:
+    """A map of the bytes that are still to be read of a file of the operating system itself.
 
-
-def _check_mapped(file: Any, start: Union[int, None], depth: int, ignore_bom: bool) -> None:
+    None of any other: the descriptor of an unpacker is that of the packed bytes.
+    """
+    raw = file.raw if type(file) in (io.BufferedReader, io.BufferedRandom) else file
+    if type(raw) is not io.FileIO or not raw.seekable():
+        return None
+    # What was written to a buffer and is not in the file yet.
+    file.flush()
+    start = file.tell()
     try:
-        whole: Buffer = mmap.mmap(file.fileno(), 0, access=mmap.ACCESS_READ)
-    except (AttributeError, OSError, ValueError):
-        # It has no descriptor, is a pipe, or is empty.
-        whole, start = b"".join(_chunks(file)), 0
-    check(view(whole)[start or 0 :], depth=depth, ignore_bom=ignore_bom, unique_names=True)
+        return memoryview(mmap.mmap(raw.fileno(), 0, access=mmap.ACCESS_READ))[start:]
+    except (OSError, ValueError):
+        # It is a device, or is empty.
+        return None
 
 
-def _check_chunks(file: Any, start: Union[int, None], depth: int, ignore_bom: bool) -> None:
+def _check_chunks(file: Any, start: Optional[int], depth: int, ignore_bom: bool) -> None:
     reader = Reader(depth=depth, ignore_bom=ignore_bom)
-    for chunk in _chunks(file):
+    for chunk in chunks_in(file, read_much):
         reader.feed(chunk)
     found = reader.verdict()
     if found:
@@ -141,9 +142,10 @@ def _check_chunks(file: Any, start: Union[int, None], depth: int, ignore_bom: bo
     # A second reading, so that accepted texts pay nothing for lines.
     file.seek(start)
     place, left = Place(), offset
-    for chunk in _chunks(file):
-        place.go_over(bytes(chunk[:left]))
-        left -= min(left, len(chunk))
+    for chunk in chunks_in(file, read_much):
+        part = bytes(view(chunk)[:left])
+        place.go_over(part)
+        left -= len(part)
         if not left:
             break
     raise Refused(found, offset, place.told())

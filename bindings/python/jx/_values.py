@@ -1,14 +1,15 @@
 """The values of an array or object, one after another, while the text is read."""
 from __future__ import annotations
 
+import contextlib
 import ctypes
 import os
 import threading
 import weakref
-from typing import Any, BinaryIO, Generator, Iterable, Iterator, List, Optional, Tuple, Union
+from typing import Any, BinaryIO, Generator, Iterable, List, Optional, Tuple, Union
 
 from . import _faults
-from ._chunks import chunks_of, slices
+from ._chunks import Chunks, chunks_of, slices
 from ._faults import Kind, Refused, Verdict, refused_in
 from ._find import NO_TEXT, spelt_pointer
 from ._library import DEPTH_DEFAULT, LIBRARY, Buffer, CAnswer, COutcome, CValues, Status, done, held, settings, view
@@ -126,14 +127,16 @@ def each_file(
     """The same of a file, by its path or open for reading bytes, or of any chunks of bytes, while they are read.
 
     Each value comes before more is waited for, as of a pipe or of `sys.stdin.buffer`. No more is held than the largest value and a chunk.
-    `Refused` has no line and column. The file's own faults are raised where they happen.
+    A path is opened with the first value, and closed behind the last one or with the generator. `Refused` has no line and column. The
+    file's own faults are raised where they happen, and a `BlockingIOError` where it does not block and has no bytes yet.
     """
     reader = ValueReader(pointer, depth=depth, ignore_bom=ignore_bom)
     return _given(reader, chunks_of(file), None)
 
 
-def _given(reader: ValueReader, chunks: Iterator[Buffer], whole: Optional[memoryview]) -> Generator[bytes, None, None]:
-    try:
+def _given(reader: ValueReader, chunks: Chunks, whole: Optional[memoryview]) -> Generator[bytes, None, None]:
+    # Both are closed also where whoever takes the values wants no more of them.
+    with contextlib.closing(reader), contextlib.closing(chunks):
         for chunk in chunks:
             yield from reader.feed(chunk)
         try:
@@ -142,9 +145,6 @@ def _given(reader: ValueReader, chunks: Iterator[Buffer], whole: Optional[memory
             if whole is None:
                 raise
             raise refused_in(whole, refused.verdict) from None
-    finally:
-        # Also where whoever takes the values wants no more of them.
-        reader.close()
 
 
 def _why_none(spelt: bytes) -> Tuple[int, int]:

@@ -1,7 +1,9 @@
 """Lazy views of a text that stays where it is, by its saved index."""
 from __future__ import annotations
 
+import bisect
 import builtins
+import collections
 import collections.abc
 import json
 import operator
@@ -13,7 +15,7 @@ from typing import (
     Iterator,
     List,
     Mapping,
-    NoReturn,
+    NamedTuple,
     Optional,
     Sequence,
     Tuple,
@@ -24,18 +26,26 @@ from typing import (
 )
 
 from . import _engine, _faults
-from ._index import ValueKind, _decoded, _token
+from ._children import FOUND, KINDS, LARGE, NO_SUCH_MEMBER, NOWHERE, Answer, Children, PartOf, Place, children_in, scalar_of, times_of
+from ._find import NO_TEXT, refuse_surrogate
+from ._index import ValueKind, _token, _units
 from ._library import DEPTH_MAX
-from ._saved import PartOf, SavedText
+from ._saved import SavedText
 from ._values import ValueReader
 
 T = TypeVar("T")
-_FOUND, _NO_SUCH_MEMBER, _NO_SLASH = 0, 1, 7
+_NOT_AN_INDEX, _PAST_END, _AFTER_LAST, _NOT_A_CONTAINER, _NO_SLASH = 3, 4, 5, 6, 7
 _OBJECT, _ARRAY = ValueKind.OBJECT.value, ValueKind.ARRAY.value
-# Members are read by parts of so many bytes, and elements are looked up so many at once.
-_STEP = 1 << 20
+_KINDS = tuple(ValueKind)
 _MOST_PARTS = 65536
+# A container of so few bytes is read for each child that is looked up, and of so few it is read and indexed.
+_SMALL, _NEAR = 4096, 65536
+# In an object that is larger the library does so many look-ups. Then it is indexed, or the places of its members are kept, of which there
+# are at most so many. With tables of names it does one more for each 64 members, which takes as long as to list these.
+_FEW_ASKED, _OFTEN_ASKED, _MOST_PLACES, _NAMES_LISTED = 4, 16, 1 << 20, 64
+# Elements of a larger array are looked up by so many at once, and are read by about so many bytes where they are small.
 _FEW, _MANY = 16, 1024
+_RUN = 1 << 17
 
 
 def open(file: Any, index: Any = None) -> View:
@@ -48,23 +58,13 @@ def open(file: Any, index: Any = None) -> View:
     """
     text = SavedText(file, index)
     try:
-        return _viewed(text, "", *_found(text, "", ""))
+        outcome, at, kind, start, end = text.answers([""])[0]
+        if outcome != FOUND:
+            _faults.raise_not_found("", outcome, at)
+        return _viewed(text, "", kind, start, end)
     except BaseException:
         text.close()
         raise
-
-
-def _found(text: SavedText, base: str, pointer: str) -> Tuple[int, int, int]:
-    """Kind, start and end of the value that a pointer leads to from a value with the pointer `base`."""
-    outcome, at, kind, start, end = text.answers([base + pointer])[0]
-    if outcome == _FOUND:
-        return kind, start, end
-    _raise(base, pointer, outcome, at)
-
-
-def _raise(base: str, pointer: str, outcome: int, at: int) -> NoReturn:
-    """Raises what such an outcome says of a pointer that goes on behind `base`."""
-    _faults.raise_not_found(pointer, outcome, at - (base.count("/") if _faults.is_lost(outcome) else len(base.encode())))
 
 
 def _viewed(text: SavedText, pointer: Optional[str], kind: int, start: int, end: int) -> View:
@@ -77,8 +77,9 @@ def _viewed(text: SavedText, pointer: Optional[str], kind: int, start: int, end:
 
 def _valued(text: SavedText, pointer: Optional[str], kind: int, start: int, end: int) -> Any:
     """A view of a container, and any other value as `json.loads` reads it."""
-    view = _viewed(text, pointer, kind, start, end)
-    return view if kind in (_ARRAY, _OBJECT) else view.load()
+    if kind == _OBJECT or kind == _ARRAY:
+        return _viewed(text, pointer, kind, start, end)
+    return scalar_of(text.read(start, end))
 
 
 class View:
@@ -92,8 +93,9 @@ class View:
     def __init__(self, text: SavedText, pointer: Optional[str], kind: int, start: int, end: int):
         self._text = text
         self.pointer = pointer
-        """The JSON Pointer (RFC 6901) that led here."""
-        self.kind = ValueKind(kind)
+        """The JSON Pointer (RFC 6901) that led here. None where none does: a name on the way is repeated, or has half of a surrogate
+        pair."""
+        self.kind = _KINDS[kind]
         self.span = (start, end)
         """Where the value stands in the file: from the first byte up to, but not including, the second."""
 
@@ -109,21 +111,19 @@ class View:
 
         Raises `BadPointer` or a `NotFound`, as `jx.get` does.
         """
-        base = self._before(pointer)
-        return _valued(self._text, base + pointer, *_found(self._text, base, pointer))
+        return self._found(pointer, self._look_up(pointer))
 
     def find_all(self, pointers: Iterable[str]) -> List[Any]:
         """The same for several pointers, in order, by one look-up."""
         if isinstance(pointers, str):
             raise TypeError("find_all takes several pointers, and this is one: pass [%r]" % pointers)
-        named, base = list(pointers), self._base()
-        for pointer in named:
-            self._before(pointer)
-        told = self._text.answers([base + pointer for pointer in named])
-        for pointer, (outcome, at, _, _, _) in zip(named, told):
-            if outcome != _FOUND:
-                _raise(base, pointer, outcome, at)
-        return [_valued(self._text, base + pointer, *one[2:]) for pointer, one in zip(named, told)]
+        named = list(pointers)
+        told: List[Optional[Answer]] = [None] * len(named)
+        if self._size() > _NEAR and self.pointer is not None:
+            for pointer in named:
+                _refuse_no_slash(pointer)
+            told = self._by_pointers(named)
+        return [self._found(pointer, one or self._look_up(pointer)) for pointer, one in zip(named, told)]
 
     def close(self) -> None:
         """Closes the text, for each view of it."""
@@ -152,22 +152,75 @@ class View:
     def __reduce__(self) -> Tuple[Any, ...]:
         return _view_again, (_places(self._text), self.pointer, int(self.kind), self.span)
 
-    def _base(self) -> str:
-        if self.pointer is None:
-            raise LookupError("no pointer leads here: a name on the way is repeated, or has half of a surrogate pair")
-        return self.pointer
-
-    def _before(self, pointer: str) -> str:
-        """The pointer of this value, behind which one that begins here goes on."""
-        if isinstance(pointer, str) and pointer and pointer[0] != "/":
-            _faults.raise_not_found(pointer, _NO_SLASH, 0)
-        return self._base()
+    def _size(self) -> int:
+        return self.span[1] - self.span[0]
 
     def _parts(self, count: int) -> List[PartOf]:
         return self._text.parts(*self.span, count)
 
-    def _size(self) -> int:
-        return self.span[1] - self.span[0]
+    def _found(self, pointer: str, answer: Answer) -> Any:
+        """The value of an answer, or what it raises."""
+        outcome, at, kind, start, end = answer
+        if outcome != FOUND:
+            _faults.raise_not_found(pointer, outcome, at)
+        return _valued(self._text, None if self.pointer is None else self.pointer + pointer, kind, start, end)
+
+    def _look_up(self, pointer: str) -> Answer:
+        """What a pointer leads to from here: by the bytes where they are few, else by the library, which begins at the root."""
+        if self._size() <= _NEAR:
+            return self._look_near(pointer)
+        _refuse_no_slash(pointer)
+        return self._by_pointers([pointer])[0] or self._walk(pointer)
+
+    def _look_near(self, pointer: str) -> Answer:
+        start, end = self.span
+        try:
+            if end - start > _SMALL:
+                return self._text.children(start, end).find(pointer)
+            data = self._text.read(start, end)
+            outcome, at, low, high = _engine.at(data, pointer, DEPTH_MAX, False, False)
+        except UnicodeEncodeError:
+            refuse_surrogate(pointer)
+        if outcome in NO_TEXT:
+            raise _faults.BadIndex("damaged")
+        return (FOUND, 0, KINDS[data[low]], start + low, start + high) if outcome == FOUND else (outcome, at, 0, 0, 0)
+
+    def _by_pointers(self, pointers: Sequence[str]) -> List[Optional[Answer]]:
+        """The same by one look-up from the root. None for each where no pointer leads here, as that of a name that is repeated."""
+        base = self.pointer
+        if base is None:
+            return [None] * len(pointers)
+        steps, length = base.count("/"), len(base.encode())
+        told: List[Optional[Answer]] = []
+        for outcome, at, kind, start, end in self._text.answers([base + pointer for pointer in pointers]):
+            if _faults.is_lost(outcome) and at < steps:
+                self.pointer = None
+                return [None] * len(pointers)
+            told.append((outcome, at and at - (steps if _faults.is_lost(outcome) else length), kind, start, end))
+        return told
+
+    def _walk(self, pointer: str) -> Answer:
+        """The same by one token behind another, where no pointer leads here."""
+        try:
+            outcome, at, _, _ = _engine.at(b"0", pointer, 0, False, False)
+        except UnicodeEncodeError:
+            refuse_surrogate(pointer)
+        if _faults.is_no_pointer(outcome):
+            return outcome, at, 0, 0, 0
+        view, tokens = self, pointer.split("/")[1:]
+        for number, token in enumerate(tokens):
+            if view._size() <= _NEAR:
+                outcome, at, kind, start, end = view._look_near("/" + "/".join(tokens[number:]))
+                return outcome, at + number if outcome != FOUND else 0, kind, start, end
+            outcome, kind, start, end = view._step(token.replace("~1", "/").replace("~0", "~"))
+            if outcome != FOUND:
+                return outcome, number, 0, 0, 0
+            view = _viewed(self._text, None, kind, start, end)
+        return FOUND, 0, int(view.kind), *view.span
+
+    def _step(self, token: str) -> Tuple[int, int, int, int]:
+        """The outcome of a token, and kind, start and end of what it leads to."""
+        return _NOT_A_CONTAINER, 0, 0, 0
 
 
 class _Container(View):
@@ -177,8 +230,7 @@ class _Container(View):
         try:
             return self._length
         except AttributeError:
-            parts = self._parts(1)
-            self._length: int = parts[0].behind if parts else 0
+            self._length: int = self._count()
             return self._length
 
     def split(self, count: int) -> List[Part]:
@@ -192,11 +244,35 @@ class _Container(View):
             raise ValueError("a container is split into 1 to %d parts, not %d" % (_MOST_PARTS, count))
         return [Part(self, count, part) for part in self._parts(count)]
 
+    def _count(self) -> int:
+        if self._size() <= _NEAR:
+            return self._children().count
+        parts = self._parts(1)
+        return parts[0].behind if parts else 0
+
+    def _children(self) -> Children:
+        return self._text.children(*self.span)
+
+
+class _Run(NamedTuple):
+    """Elements of an array, from number `first` up to, but not including, `behind`, and where they stand."""
+
+    first: int
+    behind: int
+    start: int
+    end: int
+
 
 class ArrayView(_Container, Sequence[Any]):
     """An array. `view[2]`, `view[-1]` and iteration give its elements: views of containers, and other values as `json.loads` does."""
 
-    __slots__ = ()
+    __slots__ = ("_run", "_width", "_next", "_parted")
+
+    def __init__(self, text: SavedText, pointer: Optional[str], kind: int, start: int, end: int):
+        super().__init__(text, pointer, kind, start, end)
+        # Elements that were looked up at once: the more, the longer one is asked for behind another.
+        self._run = _Run(0, 0, 0, 0)
+        self._width, self._next = 1, -1
 
     @overload
     def __getitem__(self, key: int) -> Any: ...
@@ -212,7 +288,10 @@ class ArrayView(_Container, Sequence[Any]):
             place += len(self)
             if place < 0:
                 raise IndexError("element %d of %d" % (place - len(self), len(self)))
-        return self.find("/%d" % place)
+        found = self._element(place)
+        if found is None:
+            _faults.raise_not_found("/%d" % place, _PAST_END, 0)
+        return _valued(self._text, self._pointer_to(place), *found)
 
     def __iter__(self) -> Iterator[Any]:
         return self._elements(0, None, 1)
@@ -220,19 +299,119 @@ class ArrayView(_Container, Sequence[Any]):
     def __reversed__(self) -> Iterator[Any]:
         return iter(self[::-1])
 
+    def _pointer_to(self, place: int) -> Optional[str]:
+        return None if self.pointer is None else "%s/%d" % (self.pointer, place)
+
+    def _step(self, token: str) -> Tuple[int, int, int, int]:
+        if token == "-":
+            return _AFTER_LAST, *NOWHERE
+        if token != "0" and not (token.isascii() and token.isdigit() and token[0] != "0"):
+            return _NOT_AN_INDEX, *NOWHERE
+        # More digits than any count has, and Python reads no number of very many.
+        found = self._element(int(token)) if len(token) < 30 else None
+        return (_PAST_END, *NOWHERE) if found is None else (FOUND, *found)
+
+    def _element(self, place: int) -> Optional[Place]:
+        """Where an element stands; None behind the last one."""
+        if self._size() <= _NEAR:
+            children = self._children()
+            return children.place(place) if place < children.count else None
+        run = self._run
+        if not run.first <= place < run.behind:
+            width = self._width if place == self._next else 1
+            found = None if width == 1 else self._run_of(place, place + width - 1)
+            if found is None or found.end - found.start > 2 * _RUN:
+                self._width, self._next = 2, place + 1
+                return self._place_of(place, self._by_pointers(["/%d" % place])[0])
+            run = self._run = found
+            self._width, self._next = max(2, min(2 * width, _MANY, _RUN * width // (run.end - run.start))), run.behind
+        return self._text.children(run.start, run.end, run.first).place(place)
+
+    def _place_of(self, place: int, told: Optional[Answer]) -> Optional[Place]:
+        """Where an element stands, by the answer on its pointer, if there is one."""
+        if told is None:
+            return self._without_pointer(place)
+        return told[2:] if told[0] == FOUND else None
+
+    def _run_of(self, low: int, high: int) -> Optional[_Run]:
+        """The elements from one up to another, or to the last one. None where the first is none, or where no pointer leads here."""
+        first, last = self._by_pointers(["/%d" % low, "/%d" % high])
+        if first is None or last is None or first[0] != FOUND:
+            return None
+        if last[0] == FOUND:
+            return _Run(low, high + 1, first[3], last[4])
+        return _Run(low, len(self), first[3], self.span[1] - 1)
+
     def _elements(self, place: int, end: Optional[int], step: int) -> Iterator[Any]:
         """The elements from a place on, by look-ups of several at once."""
-        base, few = self._base(), _FEW
+        if self._size() <= _NEAR:
+            children = self._children()
+            yield from self._of(children, range(place, children.count if end is None else end, step))
+            return
+        width = _FEW
         while end is None or (place < end if step > 0 else place > end):
-            behind = place + few * step
+            behind = place + width * step
             if end is not None:
                 behind = min(behind, end) if step > 0 else max(behind, end)
-            pointers = ["%s/%d" % (base, one) for one in range(place, behind, step)]
-            for pointer, (outcome, _, kind, start, last) in zip(pointers, self._text.answers(pointers)):
-                if outcome != _FOUND:
-                    return
-                yield _valued(self._text, pointer, kind, start, last)
-            place, few = place + len(pointers) * step, min(2 * few, _MANY)
+            some = range(place, behind, step)
+            run = self._run_of(min(some[0], some[-1]), max(some[0], some[-1]))
+            if run is None:
+                if self.pointer is None:
+                    yield from self._one_by_one(range(place, len(self) if end is None else end, step))
+                return
+            size, count = run.end - run.start, run.behind - run.first
+            if end is None:
+                some = range(place, run.behind)
+            if size <= min(2 * _RUN, _SMALL * len(some)) and count <= 8 * len(some):
+                yield from self._of(Children(b"[%b]" % self._text.read(run.start, run.end), run.start - 1, run.first), some)
+            else:
+                yield from self._one_by_one(some)
+            if end is None and run.behind < behind:
+                return
+            place, width = behind, min(2 * width, max(_FEW, _RUN * len(some) // size))
+
+    def _of(self, children: Children, places: range) -> Iterable[Any]:
+        """Elements that are indexed."""
+        first, plain = children.first, children.scalars()
+        if plain is None:
+            return self._each_of(children, places)
+        if places.step == 1:
+            return plain[places.start - first : places.stop - first]
+        return [plain[place - first] for place in places]
+
+    def _each_of(self, children: Children, places: range) -> Iterator[Any]:
+        text, place_of, scalar = self._text, children.place, children.scalar
+        for place in places:
+            kind, start, end = place_of(place)
+            if kind == _OBJECT or kind == _ARRAY:
+                yield _viewed(text, self._pointer_to(place), kind, start, end)
+            else:
+                yield scalar(start, end)
+
+    def _one_by_one(self, places: Sequence[int]) -> Iterator[Any]:
+        for at in range(0, len(places), _MANY):
+            some = places[at : at + _MANY]
+            for place, told in zip(some, self._by_pointers(["/%d" % one for one in some])):
+                found = self._place_of(place, told)
+                if found is not None:
+                    yield _valued(self._text, self._pointer_to(place), *found)
+
+    def _without_pointer(self, place: int) -> Optional[Place]:
+        """Where an element stands, by a part of the array, where no pointer leads here."""
+        try:
+            parts, spans = self._parted
+        except AttributeError:
+            parts, spans = self._parts(min(1 + self._size() // _NEAR, _MOST_PARTS)), {}
+            self._parted: Tuple[List[PartOf], Dict[int, List[Place]]] = parts, spans
+        number = bisect.bisect_right(parts, place, key=operator.attrgetter("first")) - 1
+        if number < 0 or place >= parts[number].behind:
+            return None
+        of_part = spans.get(number)
+        if of_part is None:
+            # One part at a time is kept.
+            spans.clear()
+            of_part = spans[number] = [one[1:] for one in children_in(self._text.read, parts[number], False)]
+        return of_part[place - parts[number].first]
 
 
 class Elements(Sequence[Any]):
@@ -271,21 +450,31 @@ class ObjectView(_Container, Mapping[str, Any]):
     `len` and iteration count each member, also of a repeated name; `view[name]` of one raises `NameRepeated`.
     """
 
-    __slots__ = ()
+    __slots__ = ("_asked", "_by_name")
+
+    def __init__(self, text: SavedText, pointer: Optional[str], kind: int, start: int, end: int):
+        super().__init__(text, pointer, kind, start, end)
+        self._asked = 0
+        self._by_name: Optional[Dict[str, Place]] = None
 
     def __getitem__(self, name: str) -> Any:
-        return self.find("/" + _token(_named(name)))
+        start, end = self.span
+        if end - start <= _SMALL and isinstance(name, str) and name.isascii():
+            # The usual case in one reading, since it is that of loops.
+            data = self._text.read(start, end)
+            outcome, _, low, high = _engine.at(data, "/" + _token(name), DEPTH_MAX, False, False)
+            if outcome == FOUND:
+                kind = KINDS[data[low]]
+                if kind == _OBJECT or kind == _ARRAY:
+                    return _viewed(self._text, self._pointer_to(name), kind, start + low, start + high)
+                return scalar_of(data[low:high])
+        times, found = self._member(_named(name))
+        if times == 1:
+            return _valued(self._text, self._pointer_to(name), *found)
+        raise (_faults.NameRepeated if times else _faults.NoSuchMember)("/" + _token(name), 0)
 
     def __contains__(self, name: object) -> bool:
-        if not isinstance(name, str):
-            raise TypeError("a member of an object is named by a str, not by " + type(name).__name__)
-        base = self._base()
-        outcome, at, _, _, _ = self._text.answers([base + "/" + _token(name)])[0]
-        if outcome in (_FOUND, _faults.NAME_REPEATED):
-            return True
-        if outcome == _NO_SUCH_MEMBER:
-            return False
-        _raise(base, "/" + _token(name), outcome, at)
+        return self._member(_named(name))[0] > 0
 
     @overload
     def get(self, name: str) -> Any: ...
@@ -314,21 +503,71 @@ class ObjectView(_Container, Mapping[str, Any]):
 
     __hash__ = View.__hash__
 
+    def _step(self, token: str) -> Tuple[int, int, int, int]:
+        times, found = self._member(token)
+        return (NO_SUCH_MEMBER, FOUND, _faults.NAME_REPEATED)[times], *found
+
+    def _member(self, name: str) -> Tuple[int, Place]:
+        """How many members have a name, of which 2 stands for more, and the place of a single one."""
+        has_pointer = _is_utf8(name)
+        if not has_pointer:
+            # Two halves of a pair that stand side by side are one character.
+            name = _units(name).decode("utf-16-le", "surrogatepass")
+            has_pointer = _is_utf8(name)
+        if self._size() <= _NEAR:
+            if not has_pointer:
+                return self._children().member(name)
+            outcome, _, kind, start, end = self._look_near("/" + _token(name))
+            return times_of(outcome), (kind, start, end)
+        self._asked += 1
+        if self._size() <= LARGE and (self._asked > _FEW_ASKED or self._text.is_indexed(*self.span)):
+            return self._children().member(name)
+        if has_pointer and not self._is_worth_a_list():
+            told = self._by_pointers(["/" + _token(name)])[0]
+            if told is not None:
+                return times_of(told[0]), told[2:]
+        return self._by_all(name)
+
+    def _is_worth_a_list(self) -> bool:
+        """Whether the look-ups so far took about as long as to list all members, where these are not too many."""
+        if self._asked <= _OFTEN_ASKED or len(self) > _MOST_PLACES:
+            return False
+        return not self._text.has_names or self._asked > len(self) // _NAMES_LISTED
+
+    def _by_all(self, name: str) -> Tuple[int, Place]:
+        """The same by the places of all members, which are kept where there are not too many."""
+        if self._size() <= LARGE:
+            return self._children().member(name)
+        if len(self) > _MOST_PLACES:
+            same = [one[1:] for one in self._members() if one[0] == name][:2]
+            return len(same), same[0] if len(same) == 1 else NOWHERE
+        if self._by_name is None:
+            places: Dict[str, Place] = {}
+            for one, *place in self._members():
+                places[one] = NOWHERE if one in places else (place[0], place[1], place[2])
+            self._by_name = places
+        found = self._by_name.get(name)
+        return (0, NOWHERE) if found is None else (2 if found == NOWHERE else 1, found)
+
     def _members(self) -> Iterator[Tuple[str, int, int, int]]:
         """Name, kind, start and end of each member, by parts of the object."""
+        if self._size() <= LARGE:
+            yield from self._children().all()
+            return
         for part in self._parts(_parts_of(self._size())):
-            yield from _members_of(self._text, part)
+            yield from children_in(self._text.read, part, True)
 
     def _pairs(self) -> Iterator[Tuple[str, Any]]:
-        for name, kind, start, end in self._members():
-            yield name, _valued(self._text, self._pointer_to(name), kind, start, end)
+        members: Iterable[Tuple[str, int, int, int]] = self._members()
+        repeated = set()
+        if self._size() <= LARGE:
+            members = list(members)
+            repeated = {name for name, times in collections.Counter(one[0] for one in members).items() if times > 1}
+        for name, kind, start, end in members:
+            yield name, _valued(self._text, None if name in repeated else self._pointer_to(name), kind, start, end)
 
     def _pointer_to(self, name: str) -> Optional[str]:
-        try:
-            name.encode()
-        except UnicodeEncodeError:
-            return None
-        return None if self.pointer is None else "%s/%s" % (self.pointer, _token(name))
+        return None if self.pointer is None or not _is_utf8(name) else "%s/%s" % (self.pointer, _token(name))
 
 
 class _Items(collections.abc.ItemsView):  # type: ignore[type-arg]
@@ -337,12 +576,18 @@ class _Items(collections.abc.ItemsView):  # type: ignore[type-arg]
     def __iter__(self) -> Iterator[Tuple[str, Any]]:
         return self._mapping._pairs()
 
+    def __contains__(self, item: object) -> bool:
+        return any(pair == item for pair in self)
+
 
 class _Values(collections.abc.ValuesView):  # type: ignore[type-arg]
     _mapping: ObjectView
 
     def __iter__(self) -> Iterator[Any]:
         return (value for _, value in self._mapping._pairs())
+
+    def __contains__(self, value: object) -> bool:
+        return any(one is value or one == value for one in self)
 
 
 class Part:
@@ -422,55 +667,27 @@ class Part:
         if few > 1:
             finer = [one for one in self._view._parts(self._count * few) if one.number // few == self._part.number]
         for part in finer:
-            for name, _, start, end in _members_of(text, part):
+            for name, _, start, end in children_in(text.read, part, True):
                 yield name, json.loads(text.read(start, end))
 
 
 def _parts_of(size: int) -> int:
-    return min(1 + size // _STEP, _MOST_PARTS)
+    return min(1 + size // LARGE, _MOST_PARTS)
 
 
-def _members_of(text: SavedText, part: PartOf) -> Iterator[Tuple[str, int, int, int]]:
-    """Name, kind, start and end of each member in a part of an object."""
-    if part.behind - part.first == 1 and part.end - part.start > _STEP:
-        yield _large_member(text, part)
-        return
-    data = b"{" + text.read(part.start, part.end) + b"}"
-    rows = _engine.index(data, DEPTH_MAX, False, False)
-    if isinstance(rows, tuple):
-        raise _faults.BadIndex("damaged")
-    shift = part.start - 1
-    for place in range(rows.count(0)):
-        kind, start, end, name_start, name_end, _, _ = rows.row(rows.child(0, place))
-        yield _decoded(data[name_start:name_end]), kind, start + shift, end + shift
+def _is_utf8(name: str) -> bool:
+    if name.isascii():
+        return True
+    try:
+        name.encode()
+        return True
+    except UnicodeEncodeError:
+        return False
 
 
-_BLANKS = b" \t\n\r"
-_KINDS = {**dict.fromkeys(b"-0123456789", 3), **dict(zip(b'{["tfn', (0, 1, 2, 4, 5, 6)))}
-
-
-def _large_member(text: SavedText, part: PartOf) -> Tuple[str, int, int, int]:
-    """A member that has a part for itself. Its name is read, and what stands around its value."""
-    size = 4096
-    while True:
-        front = text.read(part.start, min(part.start + size, part.end))
-        begin = front.index(b'"')
-        end = begin + 1
-        while end < len(front) and front[end] != 0x22:
-            end += 2 if front[end] == 0x5C else 1
-        behind = front[end + 1 :].lstrip(_BLANKS)[1:].lstrip(_BLANKS)
-        if behind:
-            break
-        size *= 16
-    start = part.start + len(front) - len(behind)
-    last, step = part.end, 4096
-    while True:
-        tail = text.read(max(start, last - step), last)
-        if tail.rstrip(_BLANKS):
-            last -= len(tail) - len(tail.rstrip(_BLANKS))
-            break
-        last -= len(tail)
-    return _decoded(front[begin : end + 1]), _KINDS[behind[0]], start, last
+def _refuse_no_slash(pointer: str) -> None:
+    if isinstance(pointer, str) and pointer and pointer[0] != "/":
+        _faults.raise_not_found(pointer, _NO_SLASH, 0)
 
 
 def _named(name: object) -> str:

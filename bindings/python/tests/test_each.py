@@ -116,7 +116,7 @@ class ByChunks(unittest.TestCase):
             with open(path) as words, self.assertRaises(TypeError):
                 jx.each_file(words)
             with self.assertRaises(FileNotFoundError):
-                jx.each_file(path.with_name("none"))
+                list(jx.each_file(path.with_name("none")))
         with self.assertRaises(TypeError):
             list(jx.each_file(["[]"]))
         got, fault = given(jx.each_file([b"[1, 2", b", x]"]))

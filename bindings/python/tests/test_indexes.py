@@ -1,10 +1,12 @@
 """Indexes of texts, and the values in them."""
 import gc
+import io
 import json
 import os
 import random
 import subprocess
 import sys
+import tempfile
 import threading
 import time
 import unittest
@@ -18,7 +20,7 @@ from .test_values import BAD, FOUND, NOT_FOUND, TEXT
 def plain(value):
     """What the bytes of a value come to, by its children alone."""
     if value.kind is jx.ValueKind.OBJECT:
-        return {child.name: plain(child) for child in value}
+        return {name: plain(child) for name, child in value.items()}
     if value.kind is jx.ValueKind.ARRAY:
         return [plain(value[at]) for at in range(len(value))]
     return value.load()
@@ -94,7 +96,7 @@ class Children(unittest.TestCase):
         index = jx.Index(TEXT)
         self.assertEqual(len(index), len(list(index)))
         self.assertEqual(index.row(0), jx.Row(jx.ValueKind.OBJECT, 0, len(TEXT), None, None, 0))
-        self.assertEqual([child.name for child in index.root], ["a", "", "m~n", "a/b", "é", "r", "r"])
+        self.assertEqual([child.name for child in index.root.values()], ["a", "", "m~n", "a/b", "é", "r", "r"])
         self.assertEqual([child.load() for child in index["/a"]], [1, {"b": 2}, []])
         self.assertEqual((len(index["/a"]), len(index["/a/0"]), len(index["/é"])), (3, 0, 0))
         self.assertEqual(index["/a/1/b"].parent.parent, index["/a"])
@@ -140,6 +142,24 @@ class Children(unittest.TestCase):
         with self.assertRaises(TypeError):
             b"a" in root
 
+    def test_an_object_is_iterated_as_a_view_of_it_is(self):
+        for text in (b'{"a": 1, "\\u0062": {"c": []}, "\\ud800": 3, "": "x"}', b'{"a": 1, "a": 2}', b"{}", b"[1, [2]]", b"[]"):
+            with tempfile.TemporaryDirectory() as folder, jx.open(io.BytesIO(text), jx.save(io.BytesIO(text), os.path.join(folder, "i"))) as view:
+                value = jx.Index(text).root
+                self.assertEqual(len(list(value)), len(view))
+                if isinstance(view, jx.ArrayView):
+                    self.assertEqual([child.load() for child in value], view.load())
+                    for call in (value.keys, value.values, value.items):
+                        with self.assertRaises(TypeError):
+                            call()
+                    continue
+                self.assertEqual((list(value), list(value.keys())), (list(view), list(view.keys())))
+                self.assertEqual([name for name, _ in value.items()], list(view))
+                self.assertEqual([child.load() for _, child in value.items()], [child.load() for child in value.values()])
+                if len(set(view)) == len(view):
+                    self.assertEqual({name: child.load() for name, child in dict(value).items()}, json.loads(text))
+        self.assertEqual(list(jx.Index(b"7").root), [])
+
     def test_members_of_large_objects(self):
         names = ["k%d" % at for at in range(500)] + ["a/b", "m~n", "\n", "é"]
         for text in (json.dumps([{name: at for at, name in enumerate(names)}]), '[{"r":1,"r":2,' + json.dumps(dict.fromkeys(names, 3))[1:] + "]"):
@@ -153,7 +173,7 @@ class Children(unittest.TestCase):
         # No pointer leads to a member of an object whose name is repeated.
         inner = json.dumps(dict.fromkeys(names, 3))
         second = jx.Index(('{"o":%s,"o":%s}' % (inner, inner)).encode()).root
-        for child in second:
+        for child in second.values():
             self.assertIsNone(child.pointer)
             self.assertEqual(child["k7"].parent, child)
             with self.assertRaises(jx.NoSuchMember):
@@ -199,7 +219,7 @@ class Values(unittest.TestCase):
         index = jx.Index(TEXT)
         for pointer in FOUND:
             self.assertEqual(index[pointer].pointer, pointer)
-        self.assertEqual([child.pointer for child in index.root][-2:], [None, None])
+        self.assertEqual([child.pointer for child in index.root.values()][-2:], [None, None])
 
     def test_bytes_are_a_view_of_what_cannot_change(self):
         self.assertIs(jx.Index(TEXT).root.bytes.obj, TEXT)
@@ -298,7 +318,7 @@ class Costs(unittest.TestCase):
             for _ in range(1000):
                 json.loads(text)
             theirs = min(theirs, (time.perf_counter() - began) / 1000 * 1e6)
-        for call in (jx.check, jx.verdict):
+        for call in (jx.check, jx.verdict, jx.compact):
             self.takes_less(lambda: [call(text) for _ in range(1000)], 1000, theirs)
 
     def test_memory_is_what_the_library_takes_and_the_children(self):

@@ -1,4 +1,5 @@
 """JSON Lines, by chunks, files and iterators."""
+import gc
 import io
 import os
 import pathlib
@@ -89,9 +90,50 @@ class ByChunks(unittest.TestCase):
             with open(path) as words, self.assertRaises(TypeError):
                 jx.lines_file(words)
             with self.assertRaises(FileNotFoundError):
-                jx.lines_file(path.with_name("none"))
+                list(jx.lines_file(path.with_name("none")))
         with self.assertRaises(TypeError):
             list(jx.lines_file(["[]"]))
+
+    @unittest.skipUnless(os.path.isdir("/proc/self/fd"), "the open files are not listed")
+    def test_a_loop_that_is_left_closes_its_file(self):
+        with tempfile.TemporaryDirectory() as folder:
+            path = os.path.join(folder, "log.jsonl")
+            pathlib.Path(path).write_bytes(b"nul\n" * 100_000)
+            before = len(os.listdir("/proc/self/fd"))
+            # What the garbage collector would find is open until it comes by.
+            gc.disable()
+            try:
+                for calls in (jx.lines_file, jx.each_file):
+                    waiting = [calls(path) for _ in range(50)]
+                    self.assertEqual(len(os.listdir("/proc/self/fd")), before)
+                    del waiting
+                for _ in range(50):
+                    for line in jx.lines_file(path):
+                        break
+                self.assertEqual(len(os.listdir("/proc/self/fd")), before)
+                with jx.lines_file(path) as lines:
+                    self.assertEqual(next(lines).number, 1)
+                self.assertEqual((len(os.listdir("/proc/self/fd")), list(lines), lines.refused > 0), (before, [], True))
+                kept = jx.lines_file(path)
+                next(kept)
+                kept.close()
+                self.assertEqual(len(os.listdir("/proc/self/fd")), before)
+            finally:
+                gc.enable()
+
+    def test_what_a_caller_opened_stays_open(self):
+        def chunks():
+            yield b"nul\n"
+            yield b"[1]\n"
+
+        for calls in (jx.lines_file, jx.each_file):
+            given, file = chunks(), io.BytesIO(b"nul\n[1]\n")
+            for opened in (given, file):
+                read = calls(opened)
+                if calls is jx.lines_file:
+                    next(read)
+                read.close()
+            self.assertEqual((len(list(given)), file.closed), (1 if calls is jx.lines_file else 2, False))
 
     def test_a_reader_that_fails_raises_its_own_fault_behind_what_was_told(self):
         def failing():

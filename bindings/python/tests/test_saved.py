@@ -3,13 +3,18 @@ import collections.abc
 import concurrent.futures
 import io
 import json
+import mmap
 import os
+import pathlib
 import pickle
 import random
 import tempfile
+import time
 import unittest
 
 import jx
+from jx import _engine
+from jx._saved import SavedText
 
 ROWS = [{"id": n, "name": "n%d \u20ac" % n, "tags": ["a"] * (n % 3), "deep": {"x/y": [n, None, True, -1.5e3]}} for n in range(400)]
 TEXT = json.dumps({"meta": {"version": 3}, "rows": ROWS, "empty": [], "none": {}, "last": "x" * 300}, indent=1).encode()
@@ -28,9 +33,32 @@ def opened(text, chunk=64, names=False):
 class Reads(io.BytesIO):
     """A text, and which chunks of it were read."""
 
+    def __init__(self, text):
+        super().__init__(text)
+        self.places, self.count = [], 0
+
     def read(self, *words):
         self.places.append(self.tell())
-        return super().read(*words)
+        found = super().read(*words)
+        self.count += len(found)
+        return found
+
+
+class Asked:
+    """Counts the look-ups by the library, each of which begins at the root."""
+
+    def __enter__(self):
+        self.count, self._answers = 0, SavedText.answers
+
+        def answers(text, pointers):
+            self.count += 1
+            return self._answers(text, pointers)
+
+        SavedText.answers = answers
+        return self
+
+    def __exit__(self, *_):
+        SavedText.answers = self._answers
 
 
 def plain(value):
@@ -107,6 +135,47 @@ class Values(unittest.TestCase):
                 self.assertEqual(root["b/~"][""][0], 3)
                 self.assertEqual([plain(value) for value in root.values()], [1, 2, {"": [3]}, 4])
 
+    HALVES = b'"\\ud800": 1, "b": {"\\udc00x": [2, {"c": 3}]}, "\\ud834\\udd1e": 4'
+
+    def test_half_of_a_surrogate_pair_in_a_name(self):
+        behind = b', "filler": "%s"'
+        for size in (0, 10, 5000, 70_000, 1_100_000):
+            text = b"{%b}" % (self.HALVES + (behind % (b"x" * size) if size else b""))
+            for names in (False, True):
+                with opened(text, 64 if size < 100 else 4096, names) as root:
+                    wanted = json.loads(text)
+                    self.assertEqual({name: plain(value) for name, value in dict(root).items()}, wanted)
+                    self.assertTrue("\ud800" in root and "\ud801" not in root and "\udc00" not in root)
+                    self.assertEqual((root["\ud800"], root.get("\ud801", 5), root.get("\ud800"), root["\ud834\udd1e"]), (1, 5, 1, 4))
+                    self.assertEqual(root["b"]["\udc00x"][1]["c"], 3)
+                    self.assertEqual((root["b"]["\udc00x"].pointer, root["b"]["\udc00x"].find("/1/c")), (None, 3))
+                    with self.assertRaises(jx.NoSuchMember) as caught:
+                        root["/\ud801"]
+                    self.assertEqual(caught.exception.pointer, "/~1\ud801")
+                    with self.assertRaises(jx.BadPointer):
+                        root.find("/\ud800")
+
+    def test_views_that_no_pointer_leads_to(self):
+        """Below a name that is repeated, or has half of a pair: small, read as a whole, and larger than a MiB."""
+        for count, filler in ((3, ""), (3000, ""), (2500, "y" * 500)):
+            rows = [{"id": n, "t": ["a", {"x": n}], "s": filler} for n in range(count)]
+            inner = {"rows": rows, "by": {"k%d" % n + filler: n for n in range(count)}, "end": [True, None, -1.5]}
+            text = b'{"a": %b, "\\ud800": %b, "a": 7}' % ((json.dumps(inner).encode(),) * 2)
+            with opened(text, 4096) as root:
+                for view in (root["\ud800"], next(iter(root.values()))):
+                    self.assertEqual((view["rows"][count - 1]["id"], view["rows"][-2]["t"][1]["x"]), (count - 1, count - 2))
+                    self.assertEqual((view.find("/rows/1/t/0"), view.find("/by/k%d%s" % (count - 1, filler))), ("a", count - 1))
+                    self.assertEqual(([row["id"] for row in view["rows"]], len(view["rows"])), (list(range(count)), count))
+                    self.assertEqual([row["id"] for row in view["rows"][2::-1]], [2, 1, 0])
+                    self.assertEqual((dict(view["by"]), list(view["end"])), (inner["by"], inner["end"]))
+                    self.assertEqual(view.find_all(["/end/2", "/rows/0/id"]), [-1.5, 0])
+                    for pointer, fault, token in (("/rows/%d" % count, jx.PastEnd, 1), ("/rows/0/t/-", jx.AfterLast, 3), ("/by/x", jx.NoSuchMember, 1), ("/rows/01", jx.NotAnIndex, 1), ("/end/0/x", jx.NotAContainer, 2)):
+                        with self.assertRaises(fault) as caught:
+                            view.find(pointer)
+                        self.assertEqual((caught.exception.pointer, caught.exception.token), (pointer, token))
+                    with self.assertRaises(jx.BadPointer):
+                        view.find("/~2")
+
     def test_what_is_not_there_and_what_is_no_pointer(self):
         with opened(TEXT) as root:
             rows = root["rows"]
@@ -157,10 +226,9 @@ class Tables(unittest.TestCase):
         reads = {}
         for names in (False, True):
             file = Reads(text)
-            file.places = []
             with jx.open(file, index_of(text, chunk=64, names=names)) as root:
                 for pointer, wanted in (("/all/member 1234/number", 1234), ("/behind", 7), ("/all/member 2999/same/1", 2999)):
-                    root._text._chunks.clear()
+                    root._text.forget()
                     file.places.clear()
                     self.assertEqual(root.find(pointer), wanted)
                     reads[names, pointer] = len(file.places)
@@ -171,6 +239,16 @@ class Tables(unittest.TestCase):
             self.assertLess(reads[True, pointer], 20)
             self.assertGreater(reads[False, pointer], len(text) // 64 - 20)
         self.assertLessEqual(reads[True, "/behind"], reads[False, "/behind"])
+
+    def test_a_few_look_ups_read_a_few_chunks(self):
+        text = json.dumps({"name %d" % n: "x" * 500 for n in range(3000)}).encode()
+        for names, most in ((True, len(text) // 2), (False, 24 * len(text))):
+            file = Reads(text)
+            with jx.open(file, index_of(text, chunk=1024, names=names)) as root:
+                self.assertEqual(root._text.has_names, names)
+                self.assertEqual([len(root["name %d" % n]) for n in range(1000, 1030)], [500] * 30)
+                self.assertNotIn("name", root)
+                self.assertLess(file.count, most)
 
     def test_tables_stand_behind_the_index(self):
         alone, both = index_of(TEXT, chunk=64), index_of(TEXT, chunk=64, names=True)
@@ -247,6 +325,28 @@ class Parts(unittest.TestCase):
             self.assertEqual(dict(pair for part in root.split(3) for pair in part), value)
 
 
+    def test_large_members_between_blanks(self):
+        value = {"first": 1, "large": ["x" * 1000] * 1200, "larger": ["y" * 1000] * 1500, "last": [2]}
+        for blanks in (4096, 70_000):
+            gap = " " * (blanks - 1) + "\n"
+            for front, colon, behind in ((gap, "", ""), (gap, gap, gap)):
+                members = ['%s"%s"%s:%s%s%s' % (front, name, colon, colon, json.dumps(one), behind) for name, one in value.items()]
+                text = ("{" + ",".join(members) + "}").encode()
+                with opened(text, 4096) as root:
+                    self.assertEqual((list(root), list(root.keys())), (list(value), list(value)))
+                    self.assertEqual({name: plain(one) for name, one in root.items()}, value)
+                    self.assertEqual([root[name] for name in root], list(root.values()))
+
+    def test_a_large_member_is_not_read_for_the_names(self):
+        rows = "[%s]" % ",".join(['{"id": 1, "s": "]},{"}'] * 300_000)
+        text = ('{"meta": {"a": [1, "]"]}, "n": "\\\\", "rows": %s, "end": 2}' % rows).encode()
+        file = Reads(text)
+        with jx.open(file, index_of(text)) as root:
+            self.assertEqual(list(root), ["meta", "n", "rows", "end"])
+            self.assertEqual([type(one) for one in root.values()], [jx.ObjectView, str, jx.ArrayView, int])
+            self.assertLess(file.count, len(text) // 2)
+
+
 class Faults(unittest.TestCase):
     def test_changes_are_told(self):
         index = index_of(TEXT, chunk=64)
@@ -266,7 +366,7 @@ class Faults(unittest.TestCase):
             row = root["rows"][200]
             start = row.span[0] + 1
             file.getbuffer()[start] ^= 1
-            root._text._chunks.clear()
+            root._text.forget()
             with self.assertRaises(jx.Changed):
                 row.load()
             file.getbuffer()[start] ^= 1
@@ -300,6 +400,58 @@ class Faults(unittest.TestCase):
             with self.assertRaises(ValueError):
                 root["rows"]
 
+    def test_an_index_does_not_take_the_place_of_its_text(self):
+        with tempfile.TemporaryDirectory() as folder:
+            path, link = os.path.join(folder, "t"), os.path.join(folder, "link")
+            pathlib.Path(path).write_bytes(TEXT)
+            os.symlink(path, link)
+            with open(path, "rb") as file:
+                for text, index in ((path, path), (path.encode(), pathlib.Path(path)), (link, path), (path, os.path.join(folder, ".", "t")), (file, path)):
+                    with self.assertRaisesRegex(ValueError, "the text itself"):
+                        jx.save(text, index)
+            self.assertEqual((pathlib.Path(path).read_bytes(), sorted(os.listdir(folder))), (TEXT, ["link", "t"]))
+
+    def test_a_file_without_bytes_yet_is_not_saved(self):
+        with tempfile.TemporaryDirectory() as folder:
+            for buffering in (-1, 0):
+                away, into = os.pipe()
+                os.set_blocking(away, False)
+                with open(away, "rb", buffering) as file, open(into, "wb", 0) as writer:
+                    writer.write(b"[1]")
+                    with self.assertRaises(BlockingIOError):
+                        jx.save(file, os.path.join(folder, "i"))
+            self.assertEqual(os.listdir(folder), [])
+
+        class Waits(io.BytesIO):
+            def read(self, size=-1):
+                return None
+
+        with self.assertRaises(BlockingIOError):
+            jx.open(Waits(TEXT), index_of(TEXT))
+
+    def test_a_map_is_opened(self):
+        with tempfile.TemporaryFile() as file:
+            file.write(TEXT)
+            file.flush()
+            mapped = mmap.mmap(file.fileno(), 0, access=mmap.ACCESS_READ)
+            with jx.open(mapped, index_of(TEXT)) as root:
+                self.assertEqual(root["rows"][7].load(), ROWS[7])
+            mapped.close()
+
+    def test_a_read_may_give_any_buffer(self):
+        for kind in (bytearray, memoryview):
+
+            class Given(io.BytesIO):
+                def read(self, size=-1):
+                    return kind(super().read(size))
+
+            with jx.open(Given(TEXT), index_of(TEXT, chunk=64)) as root:
+                self.assertEqual(root["rows"][7].load(), ROWS[7])
+            for size in (1, 1000):
+                chunks = [kind(TEXT[at : at + size]) for at in range(0, len(TEXT), size)]
+                with tempfile.TemporaryDirectory() as folder, open(jx.save(chunks, os.path.join(folder, "i")), "rb") as file:
+                    self.assertEqual(file.read(), index_of(TEXT))
+
     def test_what_is_no_text_is_not_saved(self):
         with tempfile.TemporaryDirectory() as folder:
             path = os.path.join(folder, "i")
@@ -315,6 +467,73 @@ class Faults(unittest.TestCase):
             with self.assertRaises(TypeError):
                 jx.save(io.StringIO("1"), path)
             self.assertEqual(os.listdir(folder), [])
+
+
+class Costs(unittest.TestCase):
+    """Look-ups by the library begin at the root, so they are counted. A time is the processor's, and the least of many."""
+
+    def test_a_loop_asks_the_library_seldom(self):
+        for count, filler, most in ((500, "", 4), (8000, "", 8), (2500, "y" * 500, 20)):
+            value = {"name %d" % n: {"n": n, "s": filler} for n in range(count)}
+            with opened(json.dumps(value).encode(), 32768) as root, Asked() as asked:
+                self.assertEqual({name: one["n"] for name, one in dict(root).items()}, {name: one["n"] for name, one in value.items()})
+                self.assertLess(asked.count, most)
+            rows = [{"id": n, "in": [n], "s": filler} for n in range(count)]
+            with opened(json.dumps(rows).encode(), 32768) as root, Asked() as asked:
+                self.assertEqual([row["id"] for row in root], list(range(count)))
+                self.assertEqual([root[n]["in"][0] for n in range(count)], list(range(count)))
+                self.assertEqual([row["id"] for row in reversed(root)], list(range(count - 1, -1, -1)))
+                self.assertLess(asked.count, 80)
+
+    def test_elements_of_any_size_in_any_order(self):
+        rng = random.Random(5)
+        for small, large in ((1, 1), (1, 5000), (3000, 3000), (1, 300_000)):
+            rows = [rng.choice([n, "x" * rng.choice([small, small, small, large]), [n] * 3, {}]) for n in range(600)]
+            with opened(json.dumps(rows).encode(), 4096) as root:
+                self.assertEqual([plain(one) for one in root], rows)
+                self.assertEqual([plain(root[n]) for n in range(600)], rows)
+                self.assertEqual([plain(root[n]) for n in range(-1, -601, -1)], rows[::-1])
+                for places in (slice(5, 500, 3), slice(500, 5, -1), slice(None, None, 100), slice(599, None, -90)):
+                    self.assertEqual([plain(one) for one in root[places]], rows[places])
+                for place in rng.sample(range(600), 50):
+                    self.assertEqual(plain(root[place]), rows[place])
+                with self.assertRaises(jx.PastEnd):
+                    root[600]
+
+    def test_numbers_that_python_does_not_read_stop_no_other(self):
+        text = b"[1, %b, 2]" % (b"9" * 5000)
+        with opened(text) as root:
+            if hasattr(__import__("sys"), "set_int_max_str_digits"):
+                elements = iter(root)
+                self.assertEqual(next(elements), 1)
+                with self.assertRaises(ValueError):
+                    next(elements)
+            self.assertEqual(root[2], 2)
+
+    def takes_less(self, call, count, micros):
+        """Whether one of a call's `count` parts takes less than these microseconds in one of sixty tries."""
+        least = 1e9
+        for _ in range(60):
+            began = time.process_time()
+            call()
+            least = min(least, (time.process_time() - began) / count * 1e6)
+            if least < micros:
+                return
+            time.sleep(0.25)
+        self.fail("%.2f microseconds, not %.2f" % (least, micros))
+
+    @unittest.skipUnless(_engine.IS_NATIVE, "by ctypes it takes some times as long")
+    def test_look_ups_of_children(self):
+        rows = [{"id": n, "name": "n%d" % n, "tags": ["a", "b"]} for n in range(20_000)]
+        with opened(json.dumps(rows).encode(), 32768) as root:
+            views = list(root)
+            self.takes_less(lambda: [row["id"] for row in views], len(views), 20)
+            self.takes_less(lambda: [row["id"] for row in root], len(views), 20)
+            self.takes_less(lambda: [root[n] for n in range(20_000)], len(views), 20)
+        with opened(json.dumps({"name %d" % n: n for n in range(8000)}).encode(), 32768) as root:
+            self.takes_less(lambda: dict(root), 8000, 40)
+        with opened(json.dumps(list(range(1_000_000))).encode(), 32768) as root:
+            self.takes_less(lambda: list(root), 1_000_000, 2)
 
 
 class Threads(unittest.TestCase):

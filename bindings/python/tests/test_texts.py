@@ -1,9 +1,14 @@
 """Verdicts on whole texts and on texts that come in parts."""
+import builtins
+import bz2
+import gzip
 import io
 import json
+import lzma
 import mmap
 import os
 import pathlib
+import pickle
 import re
 import tempfile
 import threading
@@ -163,6 +168,93 @@ class Files(unittest.TestCase):
             with self.assertRaises(FileNotFoundError):
                 jx.check_file(path + ".none")
 
+    def test_a_packed_file_is_what_its_reader_gives(self):
+        with tempfile.TemporaryDirectory() as folder:
+            for packer in (gzip, bz2, lzma):
+                for text, offset in ((b'{"a":[1],"b":2}', None), (b'{"a":1,\n"a":2}', 8), (b'{"a":1,', 7)):
+                    path = os.path.join(folder, "a")
+                    with packer.open(path, "wb") as file:
+                        file.write(text)
+                    for unique_names in (False, True):
+                        for reader in (lambda file: file, io.BufferedReader):
+                            with packer.open(path) as unpacker, reader(unpacker) as file:
+                                self.assertEqual(self.refusal_of(file, unique_names), None if offset == 8 and not unique_names else offset)
+
+    def test_a_file_is_checked_from_its_place_on(self):
+        with tempfile.TemporaryDirectory() as folder:
+            path = pathlib.Path(folder, "a.json")
+            for front, text, offset in ((b"", b"{}", None), (b"] [", b"{}", None), (b"x" * 9000, b"[]", None), (b"1", b"{}x", 2), (b"1", b"{} {", 3)):
+                for unique_names in (False, True):
+                    for buffering in (-1, 0):
+                        path.write_bytes(front)
+                        with open(path, "r+b", buffering) as file:
+                            file.seek(0, os.SEEK_END)
+                            file.write(text)
+                            file.seek(0)
+                            self.assertEqual(file.read(len(front)), front)
+                            self.assertEqual(self.refusal_of(file, unique_names), offset)
+
+    @staticmethod
+    def refusal_of(file, unique_names):
+        """The offset at which a file is refused, or None."""
+        try:
+            jx.check_file(file, unique_names=unique_names)
+        except jx.Refused as refused:
+            return refused.offset
+        return None
+
+    def test_a_refusal_tells_the_path(self):
+        with tempfile.TemporaryDirectory() as folder:
+            path = os.path.join(folder, "a.json")
+            pathlib.Path(path).write_bytes(b"[1 2]")
+            said = path + ": No JSON text has this byte here: line 1 column 4 (byte 3)"
+            for unique_names in (False, True):
+                with open(path, "rb") as file:
+                    for given in (path, pathlib.Path(path), path.encode(), file):
+                        with self.assertRaises(jx.Refused) as caught:
+                            jx.check_file(given, unique_names=unique_names)
+                        again = pickle.loads(pickle.dumps(caught.exception))
+                        for refused in (caught.exception, again):
+                            self.assertEqual((refused.filename, str(refused)), (path, said))
+        for call in (lambda: jx.check_file(io.BytesIO(b"[")), lambda: jx.check(b"[")):
+            with self.assertRaises(jx.Refused) as caught:
+                call()
+            self.assertIsNone(caught.exception.filename)
+
+    def test_a_file_without_bytes_yet_has_not_ended(self):
+        calls = (
+            jx.check_file,
+            lambda file: jx.check_file(file, unique_names=True),
+            lambda file: list(jx.each_file(file)),
+            lambda file: list(jx.lines_file(file)),
+            lambda file: jx.find_file(file, [""]),
+        )
+        for call in calls:
+            for buffering in (-1, 0):
+                for text in (b"", b"[1]", b"[1]\n[2]\n"):
+                    away, into = os.pipe()
+                    os.set_blocking(away, False)
+                    with open(away, "rb", buffering) as file, open(into, "wb", 0) as writer:
+                        writer.write(text)
+                        with self.assertRaises(BlockingIOError):
+                            call(file)
+
+    def test_a_read_may_give_any_buffer(self):
+        class Given(io.RawIOBase):
+            def __init__(self, kind):
+                self.kind, self.rest = kind, b'{"a":[1,2]}'
+
+            def read(self, size=-1):
+                given, self.rest = self.rest[:4], self.rest[4:]
+                return self.kind(given)
+
+        for kind in (bytes, bytearray, memoryview):
+            for unique_names in (False, True):
+                jx.check_file(Given(kind), unique_names=unique_names)
+            self.assertEqual(list(jx.each_file(Given(kind), "/a")), [b"1", b"2"])
+            self.assertEqual(list(jx.lines_file(Given(kind))), [])
+            self.assertEqual(jx.find_file(Given(kind), ["/a/1"])[0].start, 8)
+
     def test_a_pipe_has_no_lines(self):
         ends = os.pipe()
         with os.fdopen(ends[1], "wb") as file:
@@ -236,6 +328,14 @@ class CompactForms(unittest.TestCase):
             jx.compact("[1]")
         with self.assertRaises(ValueError):
             jx.compact(b"[1]", depth=65536)
+
+
+class Names(unittest.TestCase):
+    def test_a_star_takes_no_name_of_python(self):
+        given = {}
+        exec("from jx import *", given)
+        self.assertEqual(sorted(set(given) & set(dir(builtins)) - {"__builtins__"}), [])
+        self.assertIs(given["Index"], jx.Index)
 
 
 class Threads(unittest.TestCase):

@@ -52,7 +52,9 @@ def indexes() -> None:
     assert_type(bytes(value), bytes)
     assert_type(value.pointer, Optional[str])
     assert_type(value.kind, jx.ValueKind)
-    assert_type([child for child in value], List[jx.Value])
+    assert_type([child for child in value.values()], List[jx.Value])
+    assert_type(value.keys(), List[str])
+    assert_type([child.kind for _, child in value.items()], List[jx.ValueKind])
     assert_type(value.get("b"), Optional[jx.Value])
     assert_type(index.row(0), jx.Row)
     index[0]  # type: ignore[index]
@@ -96,12 +98,15 @@ def others() -> None:
         assert_type(refused.lineno, Optional[int])
         assert_type(refused.offset, Optional[int])
         assert_type(refused.kind, jx.Kind)
+        assert_type(refused.filename, Optional[str])
 
 
 def lines(path: pathlib.Path) -> None:
     assert_type(jx.lines(DATA, depth=3, ignore_bom=True, skip_blank=True), jx.Lines)
     assert_type(list(jx.lines_file(path)), List[jx.Line])
     with open(path, "rb") as file:
+        with jx.lines_file(file) as opened:
+            assert_type(next(opened), jx.Line)
         for line in jx.lines_file(file):
             assert_type(line.number, int)
             assert_type(line.offset, Optional[int])
