@@ -1,26 +1,19 @@
-/* Checks whether bytes are a JSON text (RFC 8259), and tells at which byte they stop being one. Version 0.3.0.
+/* Checks whether bytes are a JSON text (RFC 8259), and at which byte they stop being one. Version 0.3.0.
  *
  * Every call returns a status. Any status but JX_OK leaves the caller's structs unchanged, unless a call says more. Offsets and
  * sizes count bytes, depths count containers.
  *
  * Ownership: the caller owns all memory that it passes, and no call but jx_index_new, jx_finder_new, jx_values_new and
- * jx_saved_seek keeps a pointer to it. A document, an index, a saved index, a text whose index is made, a look-up, a stream of
- * values and a reader of lines are memory of the library: what calls that end in _new or _open take, those that end in _free
- * give back. A pointer must not be null, not even one to bytes with the size 0, but for settings, and in the calls on handles,
- * which answer it. What a call writes to must not overlap anything else that it is passed.
+ * jx_saved_seek keeps a pointer to it. Handles are memory of the library: a document, an index, a saved index, a save, a look-up,
+ * a stream of values and a reader of lines. What calls that end in _new or _open take, those that end in _free give back.
+ * A pointer must not be null, not even one to bytes with the size 0. Settings may be; calls on handles return a status for a null
+ * pointer. What a call writes to must not overlap anything else that it is passed.
  *
  * Threads: calls share no state, so any number of threads may call at once, each with its own structs. One call at a time may
  * use a struct that it writes to, or a handle. No call starts a thread or waits for one. Do not call from a signal handler.
  *
- * Names that end in _non_null are what the inline call below them calls, which answers null pointers: call that one. The libraries
- * export it too, for languages that do not read this header.
- *
- * Since 0.1.0 each call has one name, and its settings may be null:
- *   jx_check, jx_rows, jx_at and jx_elements took a depth, and take settings: {depth, 0} says the same.
- *   jx_check_with, jx_rows_with, jx_at_with and jx_elements_with are these calls now.
- *   jx_reader_start took a depth, and takes settings; jx_reader_start_with is this call now.
- *   jx_at_all, jx_index_new and jx_document_new take null settings too.
- * Look for a depth that is written 0 or NULL: as settings, it stands for the default depth.
+ * Names that end in _non_null are what the inline call below them calls, which handles null pointers: call that one. The libraries
+ * export it too, for languages that do not read this header. CHANGELOG.md says what callers change from version to version.
  */
 #ifndef JX_H
 #define JX_H
@@ -50,6 +43,7 @@ enum {
     JX_OTHER_DEPTH = 13,    /* the runs were made with different depths */
     JX_NOT_NEIGHBOURS = 14, /* the right run does not begin where the left one ends, or the run is of other bytes */
     JX_NO_LINES = 15,       /* the struct holds no reader of lines, or the pointer to it is null */
+    /* 16 is not used */
     JX_NO_FINDER = 17,      /* the struct holds no look-up, or the pointer to it is null */
     JX_NO_VALUES = 18,      /* the struct holds no stream of values, or the pointer to it is null */
     JX_NOT_A_POINTER = 19,  /* the bytes are no JSON Pointer: jx_at tells why, of any text */
@@ -62,7 +56,7 @@ enum {
     JX_OTHER_SIZE = 26,     /* the saved index is of a text of another size */
     JX_CHANGED = 27,        /* the bytes of the chunk are not those of the text that was indexed */
     JX_NO_SAVED = 28,       /* the struct holds no saved index, or the pointer to it is null */
-    JX_NO_SAVE = 29,        /* the struct holds no text whose index is made, or the pointer to it is null */
+    JX_NO_SAVE = 29,        /* the struct holds no save, or the pointer to it is null */
     JX_NOT_A_CHUNK = 30,    /* the size of a chunk is no power of two from 64 to 1,048,576 */
     JX_MORE_NEEDED = 31,    /* bytes of the text are needed first */
     JX_NOT_BEGUN = 32,      /* no such look-up or split was begun; or the text has ended, or has not */
@@ -86,7 +80,7 @@ enum {
     JX_UNIQUE_NAMES = 2
 };
 
-/* What a call holds a text to. Null in place of settings stands for {JX_DEPTH_DEFAULT, 0}. */
+/* How a call reads a text. Null in place of settings stands for {JX_DEPTH_DEFAULT, 0}. */
 typedef struct jx_settings {
     uint32_t depth; /* how many containers may be open at once, at most JX_DEPTH_MAX */
     uint32_t flags; /* the sum of flags, 0 for none */
@@ -127,9 +121,9 @@ uint32_t jx_compact_non_null(const uint8_t *text, size_t size, const jx_settings
                              size_t *compact_size, jx_verdict *verdict);
 
 /* Writes the compact form of a JSON text to `compact`: its tokens one behind another, without the blanks between them (RFC 8259,
- * section 2). Each token keeps its bytes: no number, name or string is spelt anew. An ignored byte order mark is left out. Writes
+ * section 2). Each token keeps its bytes: no number, name or string is rewritten. An ignored byte order mark is left out. Writes
  * the form's size to `compact_size`. It is at most `size`, so a room of `size` bytes is enough. A form of more than `room` bytes is
- * not written, and JX_NO_ROOM is returned: its size tells how much room a second call needs.
+ * not written, and JX_NO_ROOM is returned: its size says how much room a second call needs.
  *
  * The bytes are checked first, and the verdict is that of jx_check. Of bytes that are refused nothing is written, and
  * `compact_size` is 0. No byte of `compact` behind the form is changed.
@@ -250,7 +244,7 @@ static inline uint32_t jx_at_all(const uint8_t *text, size_t size, const jx_sett
  * The struct is a handle, which the library alone writes. Set it to {0}, which holds no look-up, before its first call. Free it
  * once. It may be moved, also to another thread. Do not use a copy of it after a call on another copy.
  *
- * Null pointers are answered, and change nothing: JX_NO_FINDER where `finder` is null, else JX_NULL_POINTER. Settings may be
+ * Null pointers change nothing, and the status is JX_NO_FINDER where `finder` is null, else JX_NULL_POINTER. Settings may be
  * null, and so may bytes of the size 0, and a list or a buffer without room. */
 typedef struct jx_finder {
     void *inside;
@@ -288,7 +282,7 @@ static inline uint32_t jx_finder_feed(jx_finder *finder, const uint8_t *bytes, s
     return jx_finder_feed_non_null(finder, bytes == NULL ? none : bytes, size);
 }
 
-/* Ends the look-up: writes what each pointer names in the text of all bytes that were fed, as jx_at tells it, in the order of
+/* Ends the look-up: writes what each pointer names in the text of all bytes that were fed, as jx_at does, in the order of
  * the pointers. Writes as many answers as fit, and leaves the rest of `answers` unchanged. The look-up is freed, and the struct
  * set to {0}, whatever is returned.
  *
@@ -320,7 +314,7 @@ static inline void jx_finder_free(jx_finder *finder) {
  * The struct is a handle, which the library alone writes. Set it to {0}, which holds no stream, before its first call. Free it
  * once. It may be moved, also to another thread. Do not use a copy of it after a call on another copy.
  *
- * Null pointers are answered, and change nothing: JX_NO_VALUES where `values` is null, else JX_NULL_POINTER. Settings may be
+ * Null pointers change nothing, and the status is JX_NO_VALUES where `values` is null, else JX_NULL_POINTER. Settings may be
  * null, and so may bytes of the size 0, and a buffer without room. */
 typedef struct jx_values {
     void *inside;
@@ -367,7 +361,7 @@ static inline uint32_t jx_values_feed(jx_values *values, const uint8_t *bytes, s
 
 /* Moves all values that wait to `lines`, in order: those that are due, and were not taken before. Behind the compact form of each
  * stands a line feed, the byte 0A. Writes how many bytes they are to `size`, and leaves the rest of `lines` unchanged. More than
- * `room` bytes are not moved, and JX_NO_ROOM is returned: `size` tells how much room a second call needs. So all lines that were
+ * `room` bytes are not moved, and JX_NO_ROOM is returned: `size` says how much room a second call needs. So all lines that were
  * taken are at any time the values that are due of the bytes fed by the last call before.
  *
  * Allocates nothing. Returns JX_OK, JX_NO_ROOM, JX_NO_VALUES or JX_NULL_POINTER. */
@@ -411,7 +405,7 @@ uint32_t jx_rows_non_null(const uint8_t *text, size_t size, const jx_settings *s
 
 /* Lists all values of a JSON text in the order of their starts. Writes as many rows as fit to `rows` and leaves the rest of
  * it unchanged; writes how many there are to `count`, 0 if the text is refused, also for a duplicate name. A first call with
- * room 0 tells how much room a second one needs; `rows` must not be null in either. Spans count the bytes of an ignored byte
+ * room 0 says how much room a second one needs; `rows` must not be null in either. Spans count the bytes of an ignored byte
  * order mark.
  *
  * Allocates memory in proportion to the count of values and frees it. Returns JX_OK, JX_NO_MEMORY, JX_DEPTH_TOO_GREAT or
@@ -428,7 +422,7 @@ static inline uint32_t jx_rows(const uint8_t *text, size_t size, const jx_settin
  *
  * The index keeps a pointer to the text. Until the index is freed, the text must stay where it is, and nothing may change it.
  *
- * Null pointers are answered, and change nothing: JX_NO_INDEX where `index` is null, else JX_NULL_POINTER. Settings may be
+ * Null pointers change nothing, and the status is JX_NO_INDEX where `index` is null, else JX_NULL_POINTER. Settings may be
  * null, and so may bytes of the size 0. */
 typedef struct jx_index {
     void *inside;
@@ -439,7 +433,7 @@ uint32_t jx_index_find_non_null(jx_index *index, const uint8_t *pointer, size_t 
 uint32_t jx_index_row_non_null(jx_index *index, size_t number, jx_row *row);
 void jx_index_free_non_null(jx_index *index);
 
-/* Reads a text by settings, tells the verdict, and indexes the text if it is accepted; the struct holds no index if it is
+/* Reads a text by settings, writes the verdict, and indexes the text if it is accepted; the struct holds no index if it is
  * refused. An index that the struct held is freed. Any status but JX_OK leaves both structs as they were.
  *
  * Allocates memory in proportion to the count of values, which jx_index_free frees. Returns JX_OK, JX_NO_MEMORY,
@@ -484,7 +478,7 @@ static inline void jx_index_free(jx_index *index) {
  * The struct is a handle, which the library alone writes. Set it to {0}, which holds no text, before its first call. Free it once.
  * It may be moved, also to another thread. Do not use a copy of it after a call on another copy.
  *
- * Null pointers are answered, and change nothing: JX_NO_SAVE where `save` is null, else JX_NULL_POINTER. Settings may be null, and
+ * Null pointers change nothing, and the status is JX_NO_SAVE where `save` is null, else JX_NULL_POINTER. Settings may be null, and
  * so may bytes of the size 0, and a buffer without room. */
 typedef struct jx_save {
     void *inside;
@@ -563,10 +557,10 @@ static inline void jx_save_free(jx_save *save) {
 }
 
 /* A saved index of a text: pointers into the text, and parts of its containers, from a few chunks of it. The library reads no file.
- * It tells which bytes of the text it needs, and the caller gives them, from a file, a map or a request to a server.
+ * It asks for the bytes of the text that it needs, and the caller gives them, from a file, a map or a request to a server.
  *
- * An answer is RFC 6901's on the text that was indexed, unless a chunk that was given has the kept digest and other bytes. A chunk
- * that is changed is told where it is given. Chunks that are not needed are not looked at. A digest finds change, not forgery: of a
+ * An answer is RFC 6901's on the text that was indexed, unless a chunk that was given has the kept digest and other bytes. A
+ * changed chunk is reported when it is given. Chunks that are not needed are not looked at. A digest finds change, not forgery: of a
  * made-up index answers are of no use, but all calls are safe and end.
  *
  * One look-up of pointers or one split at a time goes on by an index. The next one that begins takes its place.
@@ -574,7 +568,7 @@ static inline void jx_save_free(jx_save *save) {
  * The struct is a handle, which the library alone writes. Set it to {0}, which holds no index, before its first call. Free it once.
  * It may be moved, also to another thread. Do not use a copy of it after a call on another copy.
  *
- * Null pointers are answered, and change nothing: JX_NO_SAVED where `saved` is null, else JX_NULL_POINTER. Bytes of the size 0 may
+ * Null pointers change nothing, and the status is JX_NO_SAVED where `saved` is null, else JX_NULL_POINTER. Bytes of the size 0 may
  * be null, and so may a list or a buffer without room. */
 typedef struct jx_saved {
     void *inside;
@@ -646,7 +640,7 @@ static inline uint32_t jx_saved_seek(jx_saved *saved, const jx_pointer *pointers
     return jx_saved_seek_non_null(saved, pointers == NULL ? none : pointers, count);
 }
 
-/* Begins a split of an array or an object into `parts` parts, from 1 to JX_PARTS_MAX, by its span as a look-up told it. Of another
+/* Begins a split of an array or an object into `parts` parts, from 1 to JX_PARTS_MAX, by its span as a look-up gave it. Of another
  * span the parts are of no use. In a container a..b the child behind a comma at c, or at a for the first one, stands in part
  * (c - a) * parts / (b - a), without the remainder. So the parts are the text's, whatever the size of a chunk.
  *
@@ -681,7 +675,7 @@ static inline uint32_t jx_saved_give(jx_saved *saved, const uint8_t *bytes, size
     return jx_saved_give_non_null(saved, bytes == NULL ? none : bytes, size);
 }
 
-/* Ends the look-up: writes what each pointer names in the text that was indexed, as jx_at tells it, in the order of the pointers.
+/* Ends the look-up: writes what each pointer names in the text that was indexed, as jx_at does, in the order of the pointers.
  * Writes as many answers as fit, and leaves the rest of `answers` unchanged. Names may repeat, whatever settings the index has.
  *
  * Allocates memory in proportion to the pointers and frees it. Returns JX_OK, JX_MORE_NEEDED, JX_DAMAGED, JX_NO_MEMORY, JX_NOT_BEGUN
@@ -705,7 +699,7 @@ static inline uint32_t jx_saved_parts(jx_saved *saved, jx_part *parts, size_t ro
     return jx_saved_parts_non_null(saved, parts == NULL ? none : parts, room, count);
 }
 
-/* Tells where the chunk stands in whose place an offset of the text falls. The last chunk may end before its place does.
+/* Writes the span of the chunk in whose place an offset of the text falls. The last chunk may end before its place does.
  *
  * Allocates nothing. Returns JX_OK, JX_OUT_OF_BOUNDS behind the place of the last chunk, JX_NO_SAVED or JX_NULL_POINTER. */
 static inline uint32_t jx_saved_chunk(jx_saved *saved, size_t at, jx_span *chunk) {
@@ -714,7 +708,7 @@ static inline uint32_t jx_saved_chunk(jx_saved *saved, size_t at, jx_span *chunk
     return jx_saved_chunk_non_null(saved, at, chunk);
 }
 
-/* Tells whether bytes are those of the chunk that has the byte at an offset, as far as their digest tells. So a value that was found
+/* Checks whether bytes are those of the chunk that has the byte at an offset, as far as their digest shows. So a value that was found
  * is read as it was indexed: check the chunks in which it stands.
  *
  * Allocates nothing. Returns JX_OK, JX_CHANGED, JX_OUT_OF_BOUNDS as of jx_saved_chunk, JX_NO_SAVED or JX_NULL_POINTER. */
@@ -773,7 +767,7 @@ uint32_t jx_elements_non_null(const uint8_t *sequence, size_t size, const jx_set
 /* Lists all elements of a JSON text sequence (RFC 7464, section 2.1) in order, each with its verdict. Writes as many as fit
  * to `elements` and leaves the rest of it unchanged; writes how many there are to `count`. A record separator is the byte
  * 1E. There is no element between two in a row, nor behind one at the end, so there is at most one more element than record
- * separators. A first call with room 0 tells how many; `elements` must not be null in either. JX_IGNORE_MARK skips a byte
+ * separators. A first call with room 0 says how many; `elements` must not be null in either. JX_IGNORE_MARK skips a byte
  * order mark that is alone before the first record separator; in an element a mark is refused. JX_UNIQUE_NAMES refuses an
  * element at its first duplicate name.
  *
@@ -794,7 +788,7 @@ static inline uint32_t jx_elements(const uint8_t *sequence, size_t size, const j
  * The struct is a handle, which the library alone writes. Set it to {0}, which holds no reader, before its first call. Free
  * it once. It may be moved, also to another thread. Do not use a copy of it after a call on another copy.
  *
- * Null pointers are answered, and change nothing: JX_NO_LINES where `lines` is null, else JX_NULL_POINTER. Settings may be
+ * Null pointers change nothing, and the status is JX_NO_LINES where `lines` is null, else JX_NULL_POINTER. Settings may be
  * null, and so may bytes of the size 0, and a buffer without room. */
 typedef struct jx_lines {
     void *inside;
@@ -850,7 +844,7 @@ static inline uint32_t jx_lines_feed(jx_lines *lines, const uint8_t *bytes, size
 
 /* Moves all lines that wait to `bad`, in order: those that have ended, are no texts, and were not taken before. Writes how
  * many they are to `count`, and leaves the rest of `bad` unchanged. More than `room` lines are not moved, and JX_NO_ROOM is
- * returned: `count` tells how much room a second call needs. At most one line waits for each byte that was fed since the last
+ * returned: `count` says how much room a second call needs. At most one line waits for each byte that was fed since the last
  * call.
  *
  * Allocates nothing. Returns JX_OK, JX_NO_ROOM, JX_NO_LINES or JX_NULL_POINTER. */
@@ -861,8 +855,8 @@ static inline uint32_t jx_lines_take(jx_lines *lines, jx_line *bad, size_t room,
     return jx_lines_take_non_null(lines, bad == NULL ? none : bad, room, count);
 }
 
-/* Tells what is left to tell if the input ends here. Writes the last line to `last`, if no line feed ends it and it is no
- * text; else `last` has the number 0. Writes to `counts` how many lines there are, with that one and those that wait, which a
+/* Reports what is left if the input ends here. Writes the last line to `last`, if no line feed ends it and it is
+ * refused; else `last` has the number 0. Writes to `counts` how many lines there are, with that one and those that wait, which a
  * call of jx_lines_take moves. More bytes may be fed behind.
  *
  * Allocates nothing. Returns JX_OK, JX_NO_LINES or JX_NULL_POINTER. */
@@ -885,7 +879,7 @@ static inline void jx_lines_free(jx_lines *lines) {
  * Free it once. It may be moved, also to another thread. Do not use a copy of it after a call on another copy: a copy that is
  * used, or freed, once the document was freed leads to memory that is gone.
  *
- * Null pointers are answered, and change nothing: JX_NO_DOCUMENT where `document` is null, else JX_NULL_POINTER. Settings may
+ * Null pointers change nothing, and the status is JX_NO_DOCUMENT where `document` is null, else JX_NULL_POINTER. Settings may
  * be null, and so may bytes of the size 0. */
 typedef struct jx_document {
     void *inside;
@@ -975,7 +969,7 @@ static inline void jx_document_free(jx_document *document) {
 
 /* Reads a part of a text, which may be cut at any byte, also inside a character or a number, and writes its run to `run`.
  * `from` is the offset of its first byte in the text, or JX_NO_FROM. Writes the run's size to `run_size`. A run of more
- * than `room` bytes is not written, and JX_NO_ROOM is returned: its size tells how much room a second call needs. A byte
+ * than `room` bytes is not written, and JX_NO_ROOM is returned: its size says how much room a second call needs. A byte
  * order mark is not ignored: leave it out of the first part, and let `from` count it.
  *
  * Allocates memory and frees it: some KB, and up to 720 bytes for each closing bracket whose container an earlier part opens, of
@@ -992,7 +986,7 @@ uint32_t jx_run_join(const uint8_t *left, size_t left_size, const uint8_t *right
                      size_t *run_size);
 
 /* Gives the verdict on the run's bytes as a whole text, that of jx_check by the run's depth and no flag. They must be those from
- * `start` up to, but not including, `end`: so a part that was lost is told, and no verdict is given on less than the text.
+ * `start` up to, but not including, `end`: so a lost part is reported, and no verdict is given on less than the text.
  * Offsets count from the text's start. A run that was made with JX_NO_FROM starts at 0.
  *
  * Allocates memory in proportion to the run and frees it. Returns JX_OK, JX_NO_MEMORY, JX_NOT_A_RUN or JX_NOT_NEIGHBOURS. */

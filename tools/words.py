@@ -163,15 +163,23 @@ def joined(names):
     return ", ".join(names[:-1]) + " and " + names[-1] if len(names) > 1 else names[0]
 
 
+def default_of(commands, option, names, quote=""):
+    """The default of an option of these commands, and of each that has another one."""
+    others = [(command.name, its.default) for command in commands if command.name in names for its in command.options if its.head == option.head and its.default != option.default]
+    return ", ".join([option.default] + ["of %s%s%s %s" % (quote, name, quote, default) for name, default in others])
+
+
 def option_list(commands, notes):
     def key(option):
-        return option.head, tuple(option.paragraphs)
+        return option.head, tuple(paragraph for paragraph in option.paragraphs if not paragraph.startswith("[default: "))
 
     out = []
     for option, names in merged(commands, "words", key) + merged(commands, "options", key):
         out += [".TP", roff(bare(option.head))]
-        out += [line for paragraph in option.paragraphs for line in sentences(paragraph)]
+        out += [line for paragraph in key(option)[1] for line in sentences(paragraph)]
         out += notes[option.name]
+        if option.default:
+            out.append(roff("Default: %s." % default_of(commands, option, names)))
         if len(names) < len(commands):
             out.append(("Only for %s." if len(names) == 1 else "For %s.") % joined(names))
     return out
@@ -377,21 +385,14 @@ HEAD = "| Option | Meaning |\n|---|---|\n"
 SHARED = 4
 
 
-def defaults(commands, head, common):
-    """The default of an option, and of each command that has another one."""
-    if not common:
-        return ""
-    others = [(command.name, option.default) for command in commands for option in command.options if option.head == head and option.default != common]
-    return " Default: %s." % ", ".join([common] + ["of `%s` %s" % other for other in others])
-
-
 def table(commands):
     """README with a row for each option that several commands take; each command has a row of its own there."""
     rows = []
     for option, names in merged(commands, "options", lambda option: option.head):
         if len(names) >= SHARED:
             words = ", ".join("`%s`" % word for word in bare(option.head).split(", "))
-            rows.append("| %s | %s.%s |\n" % (words, option.short, defaults(commands, option.head, option.default)))
+            default = " Default: %s." % default_of(commands, option, names, "`") if option.default else ""
+            rows.append("| %s | %s.%s |\n" % (words, option.short, default))
     before, found, behind = (ROOT / "README.md").read_text().partition(HEAD)
     missing = [command.name for command in commands if not re.search(r"^\| `%s[` ]" % command.name, before, re.M)]
     if not found or missing:

@@ -1,0 +1,154 @@
+#!/usr/bin/env bash
+# What help, manual page and docs say of workers, memory and sizes. Each line names a page, its sentence, a call, and what the call
+# makes of it: how many threads, how much memory at its peak in KiB, how many bytes of output. So a sentence that is no longer so fails,
+# and so does one that has gone.
+. "$(dirname "$0")/lib.sh"
+
+# PAGE | SENTENCE | WHAT LEAST MOST | INPUT | WORDS. A `-` has no bound. An input is a text, lines or elements of so many bytes; behind
+# `cat` it comes through a pipe.
+claims() {
+    cat <<'LINES'
+README.md | Share the work among N workers, 1 to 64. Default: 4, of `each` 1. | threads 4 - | text.20000000 | check
+README.md | Share the work among N workers, 1 to 64. Default: 4, of `each` 1. | threads 0 0 | text.20000000 | each
+README.md | an index to keep beside a text, 0.075 % of its size | output 14800 15200 | text.20000000 | save
+jx.1 | So their workers share an input of some 5.25 MiB or more. | threads 0 0 | text.5505023 | check
+jx.1 | So their workers share an input of some 5.25 MiB or more. | threads 4 4 | text.5505024 | check
+jx.1 | So their workers share an input of some 5.25 MiB or more. | threads 0 0 | seq.5500000 | seq -q
+jx.1 | So their workers share an input of some 5.25 MiB or more. | threads 4 4 | seq.5510000 | seq -q
+jx.1 | With --piece above 131072 they share a MiB or more. | threads 0 0 | text.1048575 | check --piece 131073
+jx.1 | With --piece above 131072 they share a MiB or more. | threads 4 4 | text.1048576 | check --piece 131073
+jx.1 | With one worker no thread is started, except one to look up many pointers. | threads 0 0 | text.20000000 | check --workers 1
+jx.1 | With one worker no thread is started, except one to look up many pointers. | threads 0 0 | text.20000000 | explain --workers 1
+jx.1 | With one worker no thread is started, except one to look up many pointers. | threads 0 0 | text.20000000 | at --workers 1 /1
+jx.1 | With one worker no thread is started, except one to look up many pointers. | threads 0 0 | lines.20000000 | lines -q --workers 1
+jx.1 | With one worker no thread is started, except one to look up many pointers. | threads 0 0 | seq.20000000 | seq -q --workers 1
+jx.1 | With one worker no thread is started, except one to look up many pointers. | threads 1 1 | text.1200000 | at --workers 1 --pointers many
+jx.1 | They are many where there are 10000 or more, and one for each 128 bytes of the text. | threads 4 4 | text.1200000 | at --pointers many
+jx.1 | They are many where there are 10000 or more, and one for each 128 bytes of the text. | threads 0 0 | text.1200000 | at --pointers few
+jx.1 | They are many where there are 10000 or more, and one for each 128 bytes of the text. | threads 0 0 | text.1300000 | at --pointers many
+jx.1 | With several, another thread reads the next batch of check, seq and at. | threads 1 - | text.20000000 | at /1
+jx.1 | One worker reads the text for index, at and get | threads 0 0 | text.20000000 | index
+jx.1 | One worker reads the text for index, at and get | threads 0 0 | text.20000000 | get /1 /2
+jx.1 | Workers share what one read gives, if it is a MiB or more. | threads 0 0 | lines.1048575 | lines -q
+jx.1 | Workers share what one read gives, if it is a MiB or more. | threads 4 4 | lines.1200000 | lines -q
+jx.1 | A read of a pipe mostly gives less, and then one worker reads. | threads 0 0 | cat lines.20000000 | lines -q
+jx.1 | One worker reads, and no element is held. | threads 0 0 | seq.20000000 | seq --live
+jx.1 | One worker reads, and no element is held. | memory - 8000 | seq.20000000 | seq --live
+jx.1 | With one pointer, only its value is kept in memory. | memory - 8000 | text.20000000 | get /1
+jx.1 | With several pointers, or with --unique-names, the whole input is. | memory 19500 - | text.20000000 | get /1 /2
+jx.1 | With several pointers, or with --unique-names, the whole input is. | memory 19500 - | text.20000000 | get --unique-names /1
+jx.1 | With --lines one line is kept. | memory - 8000 | lines.20000000 | get --lines /n
+jx.1 | two batches of the text are kept, of up to 8 MiB each; with one worker, one of 256 KiB. | memory 16000 28000 | text.60000000 | at /1
+jx.1 | two batches of the text are kept, of up to 8 MiB each; with one worker, one of 256 KiB. | memory - 8000 | text.60000000 | at --workers 1 /1
+jx.1 | With 10000 pointers or more the whole input is | memory 19500 - | text.20000000 | at --pointers many
+jx.1 | The text is read to its end, and not held but for one element. | memory - 8000 | text.20000000 | each
+jx.1 | One thread reads. | threads 0 0 | text.20000000 | save
+jx.1 | The text is read once, and not held; its index is | memory - 8000 | text.20000000 | save
+jx.1 | So is what is read from a pipe, and a file that is shorter than 8 MiB. | memory 6800 - | text.7000000 | explain
+jx.1 | So is what is read from a pipe, and a file that is shorter than 8 MiB. | memory 19500 - | cat text.20000000 | explain
+jx.1 | So is what is read from a pipe, and a file that is shorter than 8 MiB. | memory - 8000 | text.20000000 | explain --workers 1
+docs/RECIPES.md | `check` keeps two batches of up to 8 MiB, with one worker one of 256 KiB, however long the dump. | memory 16000 28000 | text.60000000 | check
+docs/RECIPES.md | `check` keeps two batches of up to 8 MiB, with one worker one of 256 KiB, however long the dump. | memory - 8000 | cat text.60000000 | check --workers 1
+docs/RECIPES.md | With one pointer `get` keeps only its value in memory, with several the whole text. | memory - 8000 | cat text.20000000 | get /1
+docs/DECISIONS.md | One worker that looks up pointers in an index has a thread of its own | threads 1 1 | text.1200000 | get --workers 1 --pointers many
+LINES
+}
+
+# Loaded before the C library: at the end of a call it writes how many threads were made, and the peak of its memory.
+make_counter() {
+    cat >counter.c <<'CODE'
+#define _GNU_SOURCE
+#include <dlfcn.h>
+#include <pthread.h>
+#include <stdatomic.h>
+#include <stdio.h>
+#include <stdlib.h>
+#include <sys/syscall.h>
+#include <unistd.h>
+
+static atomic_ulong made;
+
+int pthread_create(pthread_t *thread, const pthread_attr_t *how, void *(*job)(void *), void *with) {
+    int (*create)(pthread_t *, const pthread_attr_t *, void *(*)(void *), void *) = dlsym(RTLD_NEXT, "pthread_create");
+    atomic_fetch_add(&made, 1);
+    return create(thread, how, job, with);
+}
+
+void _exit(int status) {
+    unsigned long peak = 0;
+    char line[256];
+    FILE *about = fopen("/proc/self/status", "r");
+    while (about && fgets(line, sizeof line, about)) sscanf(line, "VmHWM: %lu", &peak);
+    FILE *counts = fopen(getenv("JX_COUNTS"), "w");
+    if (counts) fprintf(counts, "threads=%lu memory=%lu\n", (unsigned long)made, peak);
+    if (counts) fclose(counts);
+    syscall(SYS_exit_group, status);
+    __builtin_unreachable();
+}
+CODE
+    cc -shared -fPIC -O1 -o counter.so counter.c
+}
+
+# make_inputs: the files that the lines name, each of so many bytes.
+make_inputs() {
+    claims | cut -d '|' -f 4 | grep -oE '(text|lines|seq)\.[0-9]+' | sort -u >inputs
+    python3 - <<'CODE'
+PARTS = {"text": (b"[1", b',"abcdefgh"', b"]"), "lines": (b"", b'{"n":1}\n', b""), "seq": (b"", b'\x1e{"n":1}\n', b"")}
+for name in open("inputs").read().split():
+    kind, size = name.split(".")
+    front, each, end = PARTS[kind]
+    left = int(size) - len(front + end)
+    with open(name, "wb") as file:
+        file.write(front + each * (left // len(each)) + b" " * (left % len(each)) + end)
+CODE
+}
+
+# page NAME: its words in a line, as a reader sees them.
+page() {
+    case $1 in
+    *.1) sed -e '/^\.\\"/d; /^\.[A-Za-z]/d; s/\\-/-/g; s/\\(aq/'"'"'/g' "$root/$1" ;;
+    *) tr '|' ' ' <"$root/$1" ;;
+    esac | flat
+}
+
+# counts INPUT WORD..: makes a call. Leaves how many threads and KiB it took, and the bytes of its output.
+counts() {
+    local input=$1 status=0
+    shift
+    rm -f counts
+    case $input in
+    cat\ *) cat "${input#cat }" | JX_COUNTS=counts LD_PRELOAD=$room/counter.so "$program" "$@" >out 2>err ;;
+    *) JX_COUNTS=counts LD_PRELOAD=$room/counter.so "$program" "$@" --file "$input" >out 2>err ;;
+    esac || status=$?
+    if [ "$status" -gt 1 ] || [ ! -e counts ]; then echo "status $status: $(cat err)" && return; fi
+    echo "$(cat counts) output=$(wc -c <out)"
+}
+
+# within NUMBER LEAST MOST: whether it lies there. A `-` is no bound.
+within() {
+    { [ "$2" = - ] || [ "$1" -ge "$2" ]; } && { [ "$3" = - ] || [ "$1" -le "$3" ]; }
+}
+
+each_sentence_is_so() {
+    local name sentence bounds input words what least most said number
+    while IFS='|' read -r name sentence bounds input words; do
+        name=$(flat <<<"$name") sentence=$(flat <<<"$sentence") input=$(flat <<<"$input")
+        read -r what least most <<<"$bounds"
+        if [ ! -e "page.${name##*/}" ]; then page "$name" >"page.${name##*/}"; fi
+        has "$name" "$sentence" "$(cat "page.${name##*/}")"
+        said=$(counts "$input" $words)
+        number=$(sed -n "s/.*$what=\([0-9]*\).*/\1/p" <<<"$said")
+        same "$name: $sentence: jx $words on $input: $what from $least to $most" yes \
+            "$(if [ -n "$number" ] && within "$number" "$least" "$most"; then echo yes; else echo "$said"; fi)"
+    done < <(claims)
+}
+
+if ! command -v cc >/dev/null || ! make_counter 2>cc.log; then
+    echo 'claims.sh: skipped: no cc that makes a library to count threads'
+    echo 'claims.sh: 0 passed, 0 failed'
+    exit 0
+fi
+seq 0 9999 | sed 's|^|/|' >many
+head -n 9999 many >few
+make_inputs
+tests each_sentence_is_so
