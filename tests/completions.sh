@@ -3,7 +3,7 @@
 . "$(dirname "$0")/lib.sh"
 
 # options_of COMMAND: the long options that the help on a command lists.
-options_of() { "$program" $1 --help 2>&1 | grep -oE '^ +(-[a-zA-Z], )?--[a-z-]+' | grep -oE -- '--[a-z-]+' | sort -u; }
+options_of() { "$program" $1 --help 2>&1 | grep -oE '^ {2,8}(-[a-zA-Z], )?--[a-z-]+' | grep -oE -- '--[a-z-]+' | sort -u; }
 
 # offered WORD..: what bash offers for the last word.
 offered() {
