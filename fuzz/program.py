@@ -209,8 +209,9 @@ class Batch:
         self.held("at %s %r" % (" ".join(words), pointers), text, got, wanted, is_found)
 
     def spelt(self, pointers):
-        """Pointers as words, or as lines of a file."""
-        if self.dice.random() < 0.5:
+        """Pointers as words, or as lines of a file. A word that is no pointer is refused, and a line is answered."""
+        are_pointers = all(re.match(rb"/|$", it) and not re.search(rb"~(?![01])", it) for it in pointers)
+        if are_pointers and self.dice.random() < 0.5:
             return ["--", *pointers]
         lines = self.folder / "pointers"
         lines.write_bytes(b"".join(it + b"\n" for it in pointers))
