@@ -38,19 +38,19 @@ _jx() {
     case $command in
     '') mapfile -t COMPREPLY < <(compgen -W 'check explain index at get each seq lines save split part join whole help -h --help -V --version' -- "$word") ;;
     help) mapfile -t COMPREPLY < <(compgen -W 'check explain index at get each seq lines save split part join whole' -- "$word") ;;
-    check) mapfile -t COMPREPLY < <(compgen -W '--file --depth --workers --piece --ignore-bom --unique-names -q --quiet -l --list --format --progress -h --help' -- "$word") ;;
-    explain) mapfile -t COMPREPLY < <(compgen -W '--file --depth --workers --piece --ignore-bom --unique-names --color -h --help' -- "$word") ;;
-    index) mapfile -t COMPREPLY < <(compgen -W '--file --depth --workers --piece --ignore-bom --unique-names -h --help' -- "$word") ;;
-    at) mapfile -t COMPREPLY < <(compgen -W '--file --depth --workers --piece --ignore-bom --unique-names --pointers --index -h --help' -- "$word") ;;
-    get) mapfile -t COMPREPLY < <(compgen -W '--file --depth --workers --piece --ignore-bom --unique-names --pointers -c --compact -r --raw --lines --skip-blank --index -h --help' -- "$word") ;;
-    each) mapfile -t COMPREPLY < <(compgen -W '--names --file --depth --workers --piece --ignore-bom --progress -h --help' -- "$word") ;;
-    seq) mapfile -t COMPREPLY < <(compgen -W '--file --depth --workers --piece --ignore-bom --unique-names --live -q --quiet -h --help' -- "$word") ;;
-    lines) mapfile -t COMPREPLY < <(compgen -W '--file --depth --workers --piece --ignore-bom --skip-blank -q --quiet -h --help' -- "$word") ;;
-    save) mapfile -t COMPREPLY < <(compgen -W '--file --depth --chunk --names --ignore-bom --unique-names --progress -h --help' -- "$word") ;;
-    split) mapfile -t COMPREPLY < <(compgen -W '--index --file --parts -h --help' -- "$word") ;;
-    part) mapfile -t COMPREPLY < <(compgen -W '--file --from --depth -h --help' -- "$word") ;;
-    join) mapfile -t COMPREPLY < <(compgen -W '--file --depth -h --help' -- "$word") ;;
-    whole) mapfile -t COMPREPLY < <(compgen -W '--file --to --from --depth -q --quiet -h --help' -- "$word") ;;
+    check) mapfile -t COMPREPLY < <(compgen -W '-f --file --depth --workers --piece --ignore-bom --unique-names -H --with-filename -q --quiet -l --list --format --progress -h --help' -- "$word") ;;
+    explain) mapfile -t COMPREPLY < <(compgen -W '-f --file --depth --workers --piece --ignore-bom --unique-names --color -v --verbose --refused -h --help' -- "$word") ;;
+    index) mapfile -t COMPREPLY < <(compgen -W '-f --file --depth --workers --piece --ignore-bom --unique-names -h --help' -- "$word") ;;
+    at) mapfile -t COMPREPLY < <(compgen -W '-f --file --depth --workers --piece --ignore-bom --unique-names --pointers --index -h --help' -- "$word") ;;
+    get) mapfile -t COMPREPLY < <(compgen -W '-f --file --depth --workers --piece --ignore-bom --unique-names --pointers -c --compact -r --raw --lines --skip-blank --index -h --help' -- "$word") ;;
+    each) mapfile -t COMPREPLY < <(compgen -W '--names -f --file --depth --workers --piece --ignore-bom --progress -h --help' -- "$word") ;;
+    seq) mapfile -t COMPREPLY < <(compgen -W '-f --file --depth --workers --piece --ignore-bom --unique-names --live -H --with-filename -q --quiet -h --help' -- "$word") ;;
+    lines) mapfile -t COMPREPLY < <(compgen -W '-f --file --depth --workers --piece --ignore-bom --skip-blank -H --with-filename -q --quiet -l --list --format -h --help' -- "$word") ;;
+    save) mapfile -t COMPREPLY < <(compgen -W '-f --file --depth --chunk --names --ignore-bom --unique-names --progress -h --help' -- "$word") ;;
+    split) mapfile -t COMPREPLY < <(compgen -W '--index -f --file --parts -h --help' -- "$word") ;;
+    part) mapfile -t COMPREPLY < <(compgen -W '-f --file --from --depth -h --help' -- "$word") ;;
+    join) mapfile -t COMPREPLY < <(compgen -W '-f --file --depth -h --help' -- "$word") ;;
+    whole) mapfile -t COMPREPLY < <(compgen -W '-f --file --to --from --depth -q --quiet -h --help' -- "$word") ;;
     esac
 }
 complete -F _jx jx

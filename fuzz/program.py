@@ -260,18 +260,20 @@ class Batch:
     def explain(self, name, text):
         """The place alone is held: sentences are for people."""
         words, settings = self.settings()
+        # One input that is accepted is told of by this option alone.
+        told = self.dice.choice([[], ["-v"]])
         verdict, _ = self.readers.read(text, settings)
-        got = run(self.program, ["explain", *words, name])
+        got = run(self.program, ["explain", *told, *words, name])
         at = verdict.offset if verdict.has_offset() else len(text)
         start = text.rfind(b"\n", 0, at) + 1
         column = at - start + 1 if text[start:at].isascii() else None
-        wanted = "%s: accepted\n" % name
+        wanted = "%s: accepted\n" % name if told else ""
         if verdict.kind != 0:
             found = re.match(rb"%s:(\d+):(\d+): .+\n" % re.escape(name.encode()), got.output)
             place = (text.count(b"\n", 0, at) + 1, column or (int(found[2]) if found else 0))
             is_right = found is not None and (int(found[1]), int(found[2])) == place
             wanted = got.output.decode("utf-8", "replace") if is_right else "%s:%d:%d: .." % (name, *place)
-        self.held(" ".join(["explain", *words]), text, got, wanted, verdict.kind == 0)
+        self.held(" ".join(["explain", *told, *words]), text, got, wanted, verdict.kind == 0)
 
     def object_of(self, name, text, settings):
         """The members that machines are told of a file, but for the sentence."""

@@ -12,6 +12,8 @@ LANGUAGES = {"json": False, "jsonl": True, "ndjson": True, "jsonlines": True, "j
 ENDINGS = (".jsonl", ".ndjson")
 OPTIONS = [None, {"depth": 0}, {"depth": 2}, {"depth": 512}, {"depth": 65535}, {"ignoreBom": True}, {"uniqueNames": True}, {"depth": 3, "ignoreBom": True, "uniqueNames": True}]
 FAR = 2**31 - 1
+# So many lines of JSON Lines are marked, and so many ranges given around a place, at most.
+MOST_MARKS, MOST_RANGES = 1000, 200
 # What may end a token that was begun, and what may be due behind it, the shortest first.
 ENDS = [b"", b" ", b"0 ", b'"', b'0"', b'00"', b'000"', b'0000"', b'n"', b"e", b"ue", b"rue", b"se", b"lse", b"alse", b"l", b"ll", b"ull"]
 ENDS += [b'\x80"', b'\x80\x80"', b'\x80\x80\x80"', b'\xa0\x80"', b'\x90\x80\x80"']
@@ -27,6 +29,11 @@ def spans_of(row):
     """The member that a row is the value of, the member's name, and the value."""
     name = [(row.name.start, row.span.end), (row.name.start, row.name.end)] if row.name.end else []
     return name + [(row.span.start, row.span.end)]
+
+
+def start_of(row):
+    """Where the member begins that a row is the value of, or the value."""
+    return row.name.start if row.name.end else row.span.start
 
 
 def closing(text):
@@ -81,7 +88,7 @@ class Session:
             self.wanted.append(lambda got: got.get("method") == "window/logMessage")
             return
         if uri in self.of_lines:
-            marks = [self.mark_of(text, *bad) for bad in self.bad_lines(text)]
+            marks = self.marks_of(text)
             self.wanted.append(lambda got: self.are_told(got, uri, version, marks))
             return
         verdict, _ = self.readers.read(text, self.settings)
@@ -115,6 +122,16 @@ class Session:
             elif is_last and rows.all[0].span.end == len(line) and plain.KINDS[rows.all[0].kind] in ("number", "true", "false", "null"):
                 yield at, at + len(line), "may be cut", None
             at += len(line) + 1
+
+    def marks_of(self, text):
+        """The marks of the first bad lines, of blank ones of the first alone, and one that counts the others at the first of them."""
+        bad, marked = list(self.bad_lines(text)), []
+        for one in bad:
+            if one[2] != "blank" or all(it[2] != "blank" for it in marked):
+                marked.append(one)
+        marks = [self.mark_of(text, *one) for one in marked[:MOST_MARKS]]
+        more = len(bad) - len(marks)
+        return marks + [("more", "more lines that are no JSON texts: %d" % more, marks[0][2], None)] if more else marks
 
     def mark_of(self, text, start, end, word, fault):
         """The code, the end of the message, and the range of a line's mark, of which only the start is known but where the line is blank."""
@@ -158,14 +175,14 @@ class Session:
         raise AssertionError(text)
 
     def shown(self, text, position):
-        """What a hover shows: the innermost value there before the fault, and its pointer."""
+        """What a hover shows: the innermost value there before the fault, or the one whose name or colon is there, and its pointer."""
         at = offset_of(text, position["line"], position["character"], self.encoding)
         ended = self.ended(text)
         if ended is None or ended[3] <= at:
             return None
         whole, verdict, rows, kept = ended
-        there = [k for k in range(rows.count) if rows.all[k].span.start <= at < rows.all[k].span.end]
-        if not there:
+        there = [k for k in range(rows.count) if start_of(rows.all[k]) <= at < rows.all[k].span.end]
+        if not there or kept <= rows.all[there[-1]].span.start:
             return None
         row, path = rows.all[there[-1]], self.readers.path(whole, rows, there[-1])
         answer = self.readers.find(whole, rows, verdict, path)
@@ -173,11 +190,12 @@ class Session:
         words = "no pointer" if not leads_there else "pointer " + path.decode() if path else "empty pointer"
         more = ", as far as the fault" if kept < row.span.end else ""
         value = "%s %d..%d%s\n%s" % (plain.KINDS[row.kind], row.span.start, min(row.span.end, kept), more, words)
-        return {"contents": {"kind": "plaintext", "value": value}, "range": self.range_to(text, row, kept)}
+        start = row.span.start if row.span.start <= at else start_of(row)
+        return {"contents": {"kind": "plaintext", "value": value}, "range": self.range_to(text, start, row, kept)}
 
-    def range_to(self, text, row, kept):
-        """The range of a value, as far as so many bytes go."""
-        return {"start": self.position_of(text, row.span.start), "end": self.position_of(text, min(row.span.end, kept))}
+    def range_to(self, text, start, row, kept):
+        """The range from there to the end of a value, as far as so many bytes go."""
+        return {"start": self.position_of(text, start), "end": self.position_of(text, min(row.span.end, kept))}
 
     def listed(self, text):
         """The values that begin before the fault, and how many bytes stand before it."""
@@ -192,7 +210,7 @@ class Session:
         rows, kept = self.listed(text)
         told = None if rows is None else []
         for row in rows or []:
-            there = self.range_to(text, row, kept)
+            there = self.range_to(text, row.span.start, row, kept)
             first, last = there["start"]["line"], there["end"]["line"] - 1
             container = plain.KINDS[row.kind] in ("array", "object")
             if container and first < last and [first] != [fold["startLine"] for fold in told[-1:]]:
@@ -211,7 +229,7 @@ class Session:
             here = self.position_of(text, at)
             chain = [span for row in rows.all[: rows.count] for span in spans_of(row) if span[0] <= at < span[1] and at < kept]
             parent = None if chain else {"range": {"start": here, "end": here}}
-            for start, end in chain:
+            for start, end in chain[-MOST_RANGES:]:
                 there = {"start": self.position_of(text, start), "end": self.position_of(text, min(end, kept))}
                 parent = {"range": there, "parent": parent} if parent else {"range": there}
             told.append(parent)
@@ -282,7 +300,7 @@ class Session:
         number = self.ask("documentSymbol", uri)
         if self.is_known_text(uri):
             rows, kept = self.listed(text)
-            wanted = None if rows is None else [self.range_to(text, row, kept) for row in rows]
+            wanted = None if rows is None else [self.range_to(text, start_of(row), row, kept) for row in rows]
         self.wanted.append(lambda got: got.get("id") == number and (got["result"] and [it["location"]["range"] for it in got["result"]]) == wanted)
 
     def folds(self, uri):

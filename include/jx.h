@@ -4,13 +4,15 @@
  * sizes count bytes, depths count containers.
  *
  * Ownership: the caller owns all memory that it passes, and no call but jx_index_new, jx_finder_new, jx_values_new and
- * jx_saved_seek keeps a pointer to it. Handles are memory of the library: a document, an index, a saved index, a save, a look-up,
- * a stream of values and a reader of lines. What calls that end in _new or _open take, those that end in _free give back.
+ * jx_saved_seek keeps a pointer to it. Handles are memory of the library: a document, an index, a shelf, a saved index, a save, a
+ * look-up, a stream of values and a reader of lines. What calls that end in _new, _share or _open take, those that end in _free give
+ * back.
  * A pointer must not be null, not even one to bytes with the size 0. Settings may be; calls on handles return a status for a null
  * pointer. What a call writes to must not overlap anything else that it is passed.
  *
- * Threads: calls share no state, so any number of threads may call at once, each with its own structs. One call at a time may
- * use a struct that it writes to, or a handle. No call starts a thread or waits for one. Do not call from a signal handler.
+ * Threads: calls share no state but a shelf, which is there for that, so any number of threads may call at once, each with its own
+ * structs. One call at a time may use a struct that it writes to, or a handle. No call starts a thread or waits for one. Do not call
+ * from a signal handler. A call takes at most JX_STACK_MOST bytes of its thread's stack.
  *
  * Names that end in _non_null are what the inline call below them calls, which handles null pointers: call that one. The libraries
  * export it too, for languages that do not read this header. CHANGELOG.md says what callers change from version to version.
@@ -60,8 +62,52 @@ enum {
     JX_NOT_A_CHUNK = 30,    /* the size of a chunk is no power of two from 64 to 1,048,576 */
     JX_MORE_NEEDED = 31,    /* bytes of the text are needed first */
     JX_NOT_BEGUN = 32,      /* no such look-up or split was begun; or the text has ended, or has not */
-    JX_READ_FAILED = 33     /* jx_saved_find: the caller's read_at failed, or gave fewer bytes */
+    JX_READ_FAILED = 33,    /* jx_saved_find: the caller's read_at failed, or gave fewer bytes */
+    JX_NO_SHELF = 34,       /* the struct holds no shelf, or the pointer to it is null */
+    JX_TAKEN = 35           /* another index stands on the shelf */
 };
+
+/* The name of a status, as JX_NO_MEMORY; "?" of a number that is none. It is never freed. */
+static inline const char *jx_status_name(uint32_t status) {
+    switch (status) {
+    case JX_OK: return "JX_OK";
+    case JX_NO_MEMORY: return "JX_NO_MEMORY";
+    case JX_DEPTH_TOO_GREAT: return "JX_DEPTH_TOO_GREAT";
+    case JX_NOT_STARTED: return "JX_NOT_STARTED";
+    case JX_TOO_MANY_BYTES: return "JX_TOO_MANY_BYTES";
+    case JX_UNKNOWN_FLAG: return "JX_UNKNOWN_FLAG";
+    case JX_NO_UNIQUE_NAMES: return "JX_NO_UNIQUE_NAMES";
+    case JX_OUT_OF_BOUNDS: return "JX_OUT_OF_BOUNDS";
+    case JX_NO_DOCUMENT: return "JX_NO_DOCUMENT";
+    case JX_NULL_POINTER: return "JX_NULL_POINTER";
+    case JX_NO_INDEX: return "JX_NO_INDEX";
+    case JX_NO_ROOM: return "JX_NO_ROOM";
+    case JX_NOT_A_RUN: return "JX_NOT_A_RUN";
+    case JX_OTHER_DEPTH: return "JX_OTHER_DEPTH";
+    case JX_NOT_NEIGHBOURS: return "JX_NOT_NEIGHBOURS";
+    case JX_NO_LINES: return "JX_NO_LINES";
+    case JX_NO_FINDER: return "JX_NO_FINDER";
+    case JX_NO_VALUES: return "JX_NO_VALUES";
+    case JX_NOT_A_POINTER: return "JX_NOT_A_POINTER";
+    case JX_NOT_SAVED: return "JX_NOT_SAVED";
+    case JX_OTHER_VERSION: return "JX_OTHER_VERSION";
+    case JX_CUT_SHORT: return "JX_CUT_SHORT";
+    case JX_DAMAGED: return "JX_DAMAGED";
+    case JX_MALFORMED: return "JX_MALFORMED";
+    case JX_MORE_BYTES: return "JX_MORE_BYTES";
+    case JX_OTHER_SIZE: return "JX_OTHER_SIZE";
+    case JX_CHANGED: return "JX_CHANGED";
+    case JX_NO_SAVED: return "JX_NO_SAVED";
+    case JX_NO_SAVE: return "JX_NO_SAVE";
+    case JX_NOT_A_CHUNK: return "JX_NOT_A_CHUNK";
+    case JX_MORE_NEEDED: return "JX_MORE_NEEDED";
+    case JX_NOT_BEGUN: return "JX_NOT_BEGUN";
+    case JX_READ_FAILED: return "JX_READ_FAILED";
+    case JX_NO_SHELF: return "JX_NO_SHELF";
+    case JX_TAKEN: return "JX_TAKEN";
+    default: return "?";
+    }
+}
 
 /* Depths: how many containers may be open at once (RFC 8259, section 9, allows such a limit). A scalar has depth 0, a
  * container one more than its deepest child. */
@@ -70,10 +116,14 @@ enum {
     JX_DEPTH_MAX = 65535
 };
 
+/* So many bytes of its thread's stack a call takes at most, as measured on texts of 512 and of 65535 levels. */
+enum { JX_STACK_MOST = 65536 };
+
 /* Flags of settings. */
 enum {
     /* Ignore a byte order mark, the bytes EF BB BF, in front of a text and before all blanks (RFC 8259, section 8.1).
-     * Offsets count its bytes. Input that ends within a mark is truncated. Without this flag a mark is stopped at 0. */
+     * Offsets count its bytes. Input that ends within a mark is truncated, but for a first line (jx_lines), which is stopped at 0.
+     * Without this flag a mark is stopped at 0. */
     JX_IGNORE_MARK = 1,
     /* Refuse duplicate names in an object, at the offset of the first duplicate. Names are equal if their values are, as
      * lists of UTF-16 code units. Without this flag any names are accepted (RFC 8259, section 4). */
@@ -470,6 +520,105 @@ static inline uint32_t jx_index_row(jx_index *index, size_t number, jx_row *row)
  * with a null pointer. */
 static inline void jx_index_free(jx_index *index) {
     if (index != NULL) jx_index_free_non_null(index);
+}
+
+/* A shelf: a place for one index, on which many threads look things up at once. One of them puts an index there, at any time. From
+ * then on each finds and reads rows in that index, and never another one, or none; until it sees it there it is told JX_NO_INDEX.
+ * No call waits for another.
+ *
+ * The struct is a handle of a shelf, which the library alone writes, and each thread has one of its own: jx_shelf_share makes
+ * another one of the same shelf. Set it to {0}, which holds none, before its first call. Free each once. It may be moved, also to
+ * another thread. Do not use a copy of it after a call on another copy. The shelf and the index on it are freed with the last handle;
+ * until then the text of the index must stay as it is.
+ *
+ * Null pointers change nothing, and the status is JX_NO_SHELF where `shelf` is null, else JX_NULL_POINTER. Bytes of the size 0 may be
+ * null. */
+typedef struct jx_shelf {
+    void *inside;
+} jx_shelf;
+
+/* The bytes of a text. */
+typedef struct jx_text {
+    const uint8_t *bytes;
+    size_t size;
+} jx_text;
+
+uint32_t jx_shelf_new_non_null(jx_shelf *shelf);
+uint32_t jx_shelf_share_non_null(jx_shelf *shelf, jx_shelf *other);
+uint32_t jx_shelf_put_non_null(jx_shelf *shelf, jx_index *index);
+uint32_t jx_shelf_text_non_null(jx_shelf *shelf, jx_text *text);
+uint32_t jx_shelf_find_non_null(jx_shelf *shelf, const uint8_t *pointer, size_t pointer_size, jx_answer *answer);
+uint32_t jx_shelf_row_non_null(jx_shelf *shelf, size_t number, jx_row *row);
+void jx_shelf_free_non_null(jx_shelf *shelf);
+
+/* Makes a shelf on which no index stands. A handle that the struct held is freed. Any status but JX_OK leaves the struct as it was.
+ *
+ * Allocates some 32 bytes, which jx_shelf_free frees. Returns JX_OK, JX_NO_MEMORY or JX_NO_SHELF. */
+static inline uint32_t jx_shelf_new(jx_shelf *shelf) {
+    if (shelf == NULL) return JX_NO_SHELF;
+    return jx_shelf_new_non_null(shelf);
+}
+
+/* Makes another handle of the same shelf, for another thread. A handle that `other` held is freed. Any status but JX_OK leaves `other`
+ * as it was.
+ *
+ * Allocates some 8 bytes, which jx_shelf_free frees. Returns JX_OK, JX_NO_MEMORY, JX_NO_SHELF or JX_NULL_POINTER. */
+static inline uint32_t jx_shelf_share(jx_shelf *shelf, jx_shelf *other) {
+    if (shelf == NULL) return JX_NO_SHELF;
+    if (other == NULL) return JX_NULL_POINTER;
+    return jx_shelf_share_non_null(shelf, other);
+}
+
+/* Puts the index that a struct holds on the shelf, if none stands there: the struct holds none then, and the index is the shelf's.
+ * Where another one stands there, JX_TAKEN is returned, and the struct holds its index as before. Of several threads that put one at
+ * once, one is told JX_OK.
+ *
+ * Allocates some 200 bytes. After JX_NO_MEMORY the struct holds no index, and none was put. Returns JX_OK, JX_TAKEN, JX_NO_MEMORY,
+ * JX_NO_INDEX where the struct holds none, JX_NO_SHELF or JX_NULL_POINTER. */
+static inline uint32_t jx_shelf_put(jx_shelf *shelf, jx_index *index) {
+    if (shelf == NULL) return JX_NO_SHELF;
+    if (index == NULL) return JX_NULL_POINTER;
+    return jx_shelf_put_non_null(shelf, index);
+}
+
+/* Tells of which text the index on the shelf is: the bytes that jx_index_new was passed.
+ *
+ * Allocates nothing. Returns JX_OK, JX_NO_INDEX where none stands there, JX_NO_SHELF or JX_NULL_POINTER. */
+static inline uint32_t jx_shelf_text(jx_shelf *shelf, jx_text *text) {
+    static const uint8_t none[1] = {0};
+    jx_text told = {none, 0};
+    uint32_t status;
+    if (shelf == NULL) return JX_NO_SHELF;
+    if (text == NULL) return JX_NULL_POINTER;
+    status = jx_shelf_text_non_null(shelf, &told);
+    if (status == JX_OK) *text = told;
+    return status;
+}
+
+/* Finds the value that a JSON Pointer (RFC 6901) names, by the index on the shelf, as jx_index_find does.
+ *
+ * Allocates nothing. Returns JX_OK, JX_NO_INDEX where none stands there, JX_NO_SHELF or JX_NULL_POINTER. */
+static inline uint32_t jx_shelf_find(jx_shelf *shelf, const uint8_t *pointer, size_t pointer_size, jx_answer *answer) {
+    static const uint8_t none[1] = {0};
+    if (shelf == NULL) return JX_NO_SHELF;
+    if (answer == NULL || (pointer == NULL && pointer_size != 0)) return JX_NULL_POINTER;
+    return jx_shelf_find_non_null(shelf, pointer == NULL ? none : pointer, pointer_size, answer);
+}
+
+/* Gives a value by the number of its row in the index on the shelf, as jx_index_row does.
+ *
+ * Allocates nothing. Returns JX_OK, JX_OUT_OF_BOUNDS if there are no more rows, JX_NO_INDEX where no index stands there, JX_NO_SHELF
+ * or JX_NULL_POINTER. */
+static inline uint32_t jx_shelf_row(jx_shelf *shelf, size_t number, jx_row *row) {
+    if (shelf == NULL) return JX_NO_SHELF;
+    if (row == NULL) return JX_NULL_POINTER;
+    return jx_shelf_row_non_null(shelf, number, row);
+}
+
+/* Frees the handle, if there is one, and sets the struct to {0}. So a second call on the same struct does nothing, nor does one with
+ * a null pointer. */
+static inline void jx_shelf_free(jx_shelf *shelf) {
+    if (shelf != NULL) jx_shelf_free_non_null(shelf);
 }
 
 /* The index of a text that comes slice by slice, to be saved beside it: 0.075 % of its size with chunks of 32 KiB. docs/FORMAT.md

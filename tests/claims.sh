@@ -11,12 +11,18 @@ claims() {
 README.md | Share the work among N workers, 1 to 64. Default: 4, of `each` 1. | threads 4 - | text.20000000 | check
 README.md | Share the work among N workers, 1 to 64. Default: 4, of `each` 1. | threads 0 0 | text.20000000 | each
 README.md | an index to keep beside a text, 0.075 % of its size | output 14800 15200 | text.20000000 | save
-jx.1 | So their workers share an input of some 5.25 MiB or more. | threads 0 0 | text.5505023 | check
-jx.1 | So their workers share an input of some 5.25 MiB or more. | threads 4 4 | text.5505024 | check
-jx.1 | So their workers share an input of some 5.25 MiB or more. | threads 0 0 | seq.5500000 | seq -q
-jx.1 | So their workers share an input of some 5.25 MiB or more. | threads 4 4 | seq.5510000 | seq -q
-jx.1 | With --piece above 131072 they share a MiB or more. | threads 0 0 | text.1048575 | check --piece 131073
-jx.1 | With --piece above 131072 they share a MiB or more. | threads 4 4 | text.1048576 | check --piece 131073
+jx.1 | Of one FILE each worker reads pieces of 256 KiB for itself, and one alone the first MiB. | threads 0 0 | text.1000000 | check
+jx.1 | Of one FILE each worker reads pieces of 256 KiB for itself, and one alone the first MiB. | threads 1 - | text.20000000 | check
+jx.1 | So their workers share an input of some 5.25 MiB or more. | threads 0 0 | cat text.5505023 | check
+jx.1 | So their workers share an input of some 5.25 MiB or more. | threads 4 4 | cat text.5505024 | check
+jx.1 | So workers share an input of some 5.25 MiB or more. | threads 0 0 | seq.5500000 | seq -q
+jx.1 | So workers share an input of some 5.25 MiB or more. | threads 4 4 | seq.5510000 | seq -q
+jx.1 | With --piece above 131072 they share a MiB or more. | threads 0 0 | cat text.1048575 | check --piece 131073
+jx.1 | With --piece above 131072 they share a MiB or more. | threads 4 4 | cat text.1048576 | check --piece 131073
+jx.1 | They share a text from a MiB on. One worker reads a text with --unique-names. | threads 0 0 | text.1048575 | explain
+jx.1 | They share a text from a MiB on. One worker reads a text with --unique-names. | threads 4 4 | text.1048576 | explain
+jx.1 | They share a text from a MiB on. One worker reads a text with --unique-names. | threads 0 0 | text.1048576 | explain --unique-names
+jx.1 | One worker reads with --live. | threads 0 0 | seq.20000000 | seq -q --live
 jx.1 | With one worker no thread is started, except one to look up many pointers. | threads 0 0 | text.20000000 | check --workers 1
 jx.1 | With one worker no thread is started, except one to look up many pointers. | threads 0 0 | text.20000000 | explain --workers 1
 jx.1 | With one worker no thread is started, except one to look up many pointers. | threads 0 0 | text.20000000 | at --workers 1 /1
@@ -26,9 +32,14 @@ jx.1 | With one worker no thread is started, except one to look up many pointers
 jx.1 | They are many where there are 10000 or more, and one for each 128 bytes of the text. | threads 4 4 | text.1200000 | at --pointers many
 jx.1 | They are many where there are 10000 or more, and one for each 128 bytes of the text. | threads 0 0 | text.1200000 | at --pointers few
 jx.1 | They are many where there are 10000 or more, and one for each 128 bytes of the text. | threads 0 0 | text.1300000 | at --pointers many
-jx.1 | With several, another thread reads the next batch of check, seq and at. | threads 1 - | text.20000000 | at /1
-jx.1 | One worker reads the text for index, at and get | threads 0 0 | text.20000000 | index
-jx.1 | One worker reads the text for index, at and get | threads 0 0 | text.20000000 | get /1 /2
+jx.1 | With fewer than 10000 pointers one thread reads, and at most 256 KiB of the text are kept. | threads 0 0 | text.20000000 | at /1
+jx.1 | With fewer than 10000 pointers one thread reads, and at most 256 KiB of the text are kept. | memory - 8000 | text.20000000 | at /1
+jx.1 | With --unique-names one thread reads, at most 256 KiB at a time. | threads 0 0 | text.20000000 | check --unique-names
+jx.1 | With --unique-names one thread reads, at most 256 KiB at a time. | memory - 8000 | text.20000000 | check --unique-names
+jx.1 | one of them reads the text and makes its index. | threads 0 0 | text.20000000 | index
+jx.1 | One worker reads the text, looks up fewer pointers, looks up by --index, and answers with --lines. | threads 0 0 | text.20000000 | get /1 /2
+jx.1 | One worker reads the text, looks up fewer pointers, looks up by --index, and answers with --lines. | threads 0 0 | lines.20000000 | get --lines /n
+jx.1 | They share what one read gives, from a MiB on. | threads 4 - | text.20000000 | each --workers 4
 jx.1 | Workers share what one read gives, if it is a MiB or more. | threads 0 0 | lines.1048575 | lines -q
 jx.1 | Workers share what one read gives, if it is a MiB or more. | threads 4 4 | lines.1200000 | lines -q
 jx.1 | A read of a pipe mostly gives less, and then one worker reads. | threads 0 0 | cat lines.20000000 | lines -q
@@ -38,8 +49,6 @@ jx.1 | With one pointer, only its value is kept in memory. | memory - 8000 | tex
 jx.1 | With several pointers, or with --unique-names, the whole input is. | memory 19500 - | text.20000000 | get /1 /2
 jx.1 | With several pointers, or with --unique-names, the whole input is. | memory 19500 - | text.20000000 | get --unique-names /1
 jx.1 | With --lines one line is kept. | memory - 8000 | lines.20000000 | get --lines /n
-jx.1 | two batches of the text are kept, of up to 8 MiB each; with one worker, one of 256 KiB. | memory 16000 28000 | text.60000000 | at /1
-jx.1 | two batches of the text are kept, of up to 8 MiB each; with one worker, one of 256 KiB. | memory - 8000 | text.60000000 | at --workers 1 /1
 jx.1 | With 10000 pointers or more the whole input is | memory 19500 - | text.20000000 | at --pointers many
 jx.1 | The text is read to its end, and not held but for one element. | memory - 8000 | text.20000000 | each
 jx.1 | One thread reads. | threads 0 0 | text.20000000 | save
@@ -47,8 +56,14 @@ jx.1 | The text is read once, and not held; its index is | memory - 8000 | text.
 jx.1 | So is what is read from a pipe, and a file that is shorter than 8 MiB. | memory 6800 - | text.7000000 | explain
 jx.1 | So is what is read from a pipe, and a file that is shorter than 8 MiB. | memory 19500 - | cat text.20000000 | explain
 jx.1 | So is what is read from a pipe, and a file that is shorter than 8 MiB. | memory - 8000 | text.20000000 | explain --workers 1
-docs/RECIPES.md | `check` keeps two batches of up to 8 MiB, with one worker one of 256 KiB, however long the dump. | memory 16000 28000 | text.60000000 | check
-docs/RECIPES.md | `check` keeps two batches of up to 8 MiB, with one worker one of 256 KiB, however long the dump. | memory - 8000 | cat text.60000000 | check --workers 1
+docs/RECIPES.md | Of a pipe `check` keeps two batches of up to 8 MiB, with one worker one of 256 KiB, however long the dump. | memory 16000 28000 | cat text.60000000 | check
+docs/RECIPES.md | Of a pipe `check` keeps two batches of up to 8 MiB, with one worker one of 256 KiB, however long the dump. | memory - 8000 | cat text.60000000 | check --workers 1
+docs/RECIPES.md | Of a file each worker keeps 256 KiB. | memory - 8000 | text.60000000 | check
+docs/RECIPES.md | Of a file each worker keeps 256 KiB. | memory - 26000 | text.60000000 | check --workers 64
+docs/DECISIONS.md | A file of less than a MiB is read in order | threads 0 0 | text.1048575 | check
+docs/DECISIONS.md | A file of less than a MiB is read in order | threads 4 4 | text.1200000 | check
+docs/DECISIONS.md | one of up to four chunks starts no thread. | threads 0 0 | text.20000000 | check --piece 6000000
+docs/DECISIONS.md | With `--progress` or unique names a file is read in order | threads 0 0 | text.20000000 | check --unique-names
 docs/RECIPES.md | With one pointer `get` keeps only its value in memory, with several the whole text. | memory - 8000 | cat text.20000000 | get /1
 docs/DECISIONS.md | One worker that looks up pointers in an index has a thread of its own | threads 1 1 | text.1200000 | get --workers 1 --pointers many
 LINES

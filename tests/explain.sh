@@ -56,8 +56,8 @@ the_sentence_says_what_could_stand_there() {
     same 'another literal' '1:5: expected e, as in false, found x' "$(sentence 'falsx')"
     same 'the second letter of one' '1:2: expected u, as in null, found i' "$(sentence 'nil')"
     same 'the end inside a literal' '1:4: the text ends where e, as in true, is expected' "$(sentence 'tru')"
-    same 'a zero alone' '-: accepted' "$(shown '0')"
-    same 'a fraction below 1' '-: accepted' "$(shown '0.5')"
+    same 'a zero alone' '-: accepted' "$(shown '0' -v)"
+    same 'a fraction below 1' '-: accepted' "$(shown '0.5' -v)"
     same 'a zero behind a minus sign' '1:4: no digit may follow a 0 that begins a number' "$(sentence '[-01]')"
     same 'an escape' '1:3: expected one of " \ / b f n r t u, found x' "$(sentence '"\\x"')"
     same 'a control character' '1:2: a control character in a string must be escaped' "$(sentence '"\t"')"
@@ -72,7 +72,11 @@ the_line_is_shown_with_a_caret() {
     same 'a character that takes two columns' "$(printf '%s\n' '-:1:4: expected the end of the text, found x (byte 5)' '"漢"x' '    ^')" "$(shown '"\346\274\242"x')"
     same 'bytes that are no characters' "$(printf '%s\n' '-:1:2: expected a character in UTF-8, found \xFF (byte 1)' '"\xFF\x01' ' ^')" "$(shown '"\377\001')"
     many=$(printf '1,%.0s' {1..100})
-    same 'a long line is cut' "$(printf '%s\n' '-:1:202: expected a value, found a comma (byte 201)' "${many:161},${many:0:39}" "$(printf '%39s^' '')" 'pointer: /100' 'perhaps: a comma too many')" "$(shown "[$many,$many")"
+    same 'a long line is cut' "$(printf '%s\n' '-:1:202: expected a value, found a comma (byte 201)' "..${many:163},${many:0:37}.." "$(printf '%39s^' '')" 'pointer: /100' 'perhaps: a comma too many')" "$(shown "[$many,$many")"
+    same 'a line that is cut behind the place' "$(printf '%s\n' "[,${many:0:37}.." ' ^')" "$(shown "[,$many" | sed -n 2,3p)"
+    same 'a line that is cut before it' "$(printf '%s\n' "..${many:163}," "$(printf '%39s^' '')")" "$(shown "[$many," | sed -n 2,3p)"
+    same 'a line that just fits' "$(printf '%s\n' "[${many:0:36},${many:0:37}" "$(printf '%37s^' '')")" "$(shown "[${many:0:36},${many:0:37}" | sed -n 2,3p)"
+    same 'a whole line between cut ones is whole' "$(printf '%s\n' '[x' ' ^')" "$(shown "$(printf '%0100d' 0 | tr 0 ' ')\\n[x\\n$many" | sed -n 2,3p)"
     same 'a line of 100 MB' 4 "$({ printf '['; head -c 100000000 /dev/zero | tr '\0' ' '; printf '}'; } | "$program" explain | wc -l)"
 }
 
@@ -140,14 +144,43 @@ likely_mistakes_are_named() {
     same 'a comment of a line' 'a comment, which JSON has not' "$(guess '[1, // one\n2]')"
     same 'a comment of a script' 'a comment, which JSON has not' "$(guess '# one\n[]')"
     same 'JSON Lines' 'a second text: in JSON Lines each line is one' "$(guess '{"a":1}\n{"a":2}\n')"
+    same 'two texts in a row' 'a second text right behind the first' "$(guess '{"a":1}{"a":2}')"
+    same 'two texts in a line' 'a second text right behind the first' "$(guess '\n[1] [2]')"
+    same 'a second text behind blanks of its line' 'a second text: in JSON Lines each line is one' "$(guess '1\n 2')"
+    same 'a byte order mark' 'a byte order mark, which --ignore-bom ignores' "$(guess '\357\273\277[1]')"
+    same 'UTF-16 behind its mark' 'UTF-16, where JSON has UTF-8' "$(guess '\377\376[\000]\000')"
+    same 'UTF-16, the other order' 'UTF-16, where JSON has UTF-8' "$(guess '\376\377\000[\000]')"
+    same 'UTF-16 without a mark' 'UTF-16, where JSON has UTF-8' "$(guess '[\0001\000')"
+    same 'that in the other order' 'UTF-16, where JSON has UTF-8' "$(guess '\000[\0001')"
+    same 'gzip' 'what gzip has packed' "$(guess '\037\213\010\000')"
+    same 'zstd' 'what zstd has packed' "$(guess '\050\265\057\375')"
+    same 'quotation marks of letters' 'quotation marks of letters, where JSON has "' "$(guess '[\342\200\234a\342\200\235]')"
+    same 'the same around a name' 'quotation marks of letters, where JSON has "' "$(guess '{\342\200\231a\342\200\231:1}')"
+    same 'a string that its line ends' 'a string without its closing quotation mark' "$(guess '{"a":"b\n}')"
+    same 'a string that goes on to the next one' 'a quotation mark is missing, or one is not escaped' "$(guess '{"a":"b, "c":1}')"
+    same 'a name that does' 'a quotation mark is missing, or one is not escaped' "$(guess '{"a:1, "b":2}')"
+    same 'quotation marks in a string' 'a quotation mark is missing, or one is not escaped' "$(guess '["say "hi" now"]')"
+    same 'a literal behind a string' 'a comma is missing' "$(guess '["a" true]')"
+    same 'a letter behind a number' '' "$(guess '{"a":1 b')"
     same 'another word has no guess' '' "$(guess '[x]')"
     same 'nor has a bracket of the other kind' '' "$(guess '[1}')"
     same 'nor has what is accepted' '' "$(guess '[1]')"
 }
 
-several_files_are_explained_in_their_order() {
+it_is_told_of_accepted_texts_where_that_is_asked_for() {
     printf '[1]' >good.json
     printf '[1,]' >bad.json
+    same 'one that is accepted' 'status 0' "$(said '' explain good.json)"
+    same 'standard input' 'status 0' "$(said '[1]' explain)"
+    same 'verbose' "$(printf '%s\n' 'status 0' 'out: good.json: accepted')" "$(said '' explain -v good.json)"
+    same 'verbose, in a word' "$(printf '%s\n' 'status 0' 'out: -: accepted')" "$(said '[1]' explain --verbose)"
+    same 'several' "$(printf '%s\n' 'status 0' 'out: good.json: accepted' 'out: good.json: accepted')" "$(said '' explain good.json good.json)"
+    same 'refused ones alone: all accepted' 'status 0' "$(said '' explain --refused good.json good.json)"
+    same 'refused ones alone' "$(said '' explain bad.json)" "$(said '' explain --refused good.json bad.json)"
+    has 'both' "error: the argument '--refused' cannot be used with '--verbose'" "$(said '' explain --refused -v good.json)"
+}
+
+several_files_are_explained_in_their_order() {
     same 'three words' "$(printf '%s\n' 'status 1' 'out: good.json: accepted' 'out: bad.json:1:4: expected a value, found ] (byte 3)' 'out: [1,]' 'out:    ^' \
         'out: pointer: /1' 'out: perhaps: a comma too many' 'out: -:1:2: the text ends where a string or } is expected (byte 1)' 'out: {' 'out:  ^' 'out: open: {')" \
         "$(said '{' explain good.json bad.json -)"
@@ -205,14 +238,14 @@ print("held" if resource.getrusage(resource.RUSAGE_CHILDREN).ru_maxrss >= 40000 
 a_long_file_that_is_accepted_is_not_held() {
     { printf '['; head -c 60000000 /dev/zero | tr '\0' ' '; printf '0]'; } >long.json
     { cat long.json; printf ' x'; } >longer.json
-    same 'a long file' 'long.json: accepted' "$("$program" explain long.json)"
+    same 'a long file' 'long.json: accepted' "$("$program" explain -v long.json)"
     same 'a long file for machines' '{"name":"long.json","verdict":"accepted"}' "$("$program" check --format json long.json)"
     same 'a long file for editors' '' "$("$program" check --format gnu long.json)"
     same 'its memory' 'not held' "$(held explain long.json)"
     same 'its memory, for machines' 'not held' "$(held check --format json long.json)"
     same 'a long file that is refused' 'longer.json:1:60000005: expected the end of the text, found x (byte 60000004)' "$("$program" check --format gnu longer.json)"
     same 'its memory' 'held' "$(held explain longer.json)"
-    same 'a long file from a pipe' '-: accepted' "$(cat long.json | "$program" explain)"
+    same 'a long file from a pipe' '-: accepted' "$(cat long.json | "$program" explain -v)"
     rm long.json longer.json
 }
 
@@ -221,7 +254,7 @@ the_name_is_that_of_the_file() {
     same 'a file' 'a b.json:1:4: expected a value, found ] (byte 3)' "$("$program" explain 'a b.json' | head -n 1)"
     same 'by the option' "$("$program" explain 'a b.json')" "$("$program" explain --file 'a b.json')"
     same 'a name that is not printed' '\x1B:1:1: the text ends where a value is expected (byte 0)' "$(: >$'\033'; "$program" explain $'\033' | head -n 1)"
-    same 'a text that is accepted' "$(printf '%s\n' 'status 0' 'out: -: accepted')" "$(said '[1]' explain)"
+    same 'a text that is accepted' "$(printf '%s\n' 'status 0' 'out: a b.json: accepted')" "$(printf '[1]' >'a b.json'; said '' explain -v 'a b.json')"
     has 'a text that is refused: its status' 'status 1' "$(said '[1' explain)"
     same 'no such file' "$(printf '%s\n' 'status 2' 'err: jx: missing: cannot open: No such file or directory')" "$(said '' explain missing)"
     same 'a folder' "$(printf '%s\n' 'status 2' 'err: jx: .: is a directory')" "$(said '' explain .)"
@@ -249,6 +282,7 @@ tests the_place_is_a_line_and_a_column_of_characters \
     the_pointer_is_of_the_value_at_the_place \
     open_brackets_are_told_where_the_text_ends \
     likely_mistakes_are_named \
+    it_is_told_of_accepted_texts_where_that_is_asked_for \
     several_files_are_explained_in_their_order \
     refused_files_alone_are_listed \
     editors_have_a_line_for_each_refused_file \

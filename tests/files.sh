@@ -49,6 +49,35 @@ several_files_are_checked_in_their_order() {
         "$(told check --unique-names good.json names.json)"
 }
 
+one_file_has_its_name_where_that_is_asked_for() {
+    local flag
+    for flag in -H --with-filename; do
+        same "check $flag" "$(lines 'status 1' 'out: bad.json: stopped at 3')" "$(told check $flag bad.json)"
+        same "seq $flag" "$(lines 'status 0' 'out: whole.log: 1..4 accepted')" "$(told seq $flag whole.log)"
+        same "seq --live $flag" "$(lines 'status 0' 'out: whole.log: 1..4 accepted')" "$(told seq --live $flag whole.log)"
+        same "lines $flag" "$(lines 'status 1' 'out: short.json: 1 0..2 truncated' 'out: short.json: accepted 0, refused 1')" "$(told lines $flag short.json)"
+    done
+    same 'standard input' "$(lines 'status 1' 'out: -: truncated')" "$(said '[' check -H)"
+    same 'standard input as a word' "$(lines 'status 1' 'out: -: truncated')" "$(said '[' check -H -)"
+    same 'by the option' "$(lines 'status 0' 'out: good.json: accepted')" "$(told check -H --file good.json)"
+    printf '[]' >-
+    same 'the option names a file that is called a hyphen' "$(lines 'status 0' 'out: ./-: accepted')" "$(said '[' check -H --file -)"
+    rm -- -
+    same 'several files' "$(told check good.json bad.json)" "$(told check -H good.json bad.json)"
+    same 'quiet' 'status 1' "$(told check -qH bad.json)"
+    same 'one that is missing' "$(told check missing)" "$(told check -H missing)"
+}
+
+the_option_for_a_file_is_a_letter_too() {
+    local command
+    for command in check index seq lines explain; do
+        same "$command -f" "$(told $command --file bad.json)" "$(told $command -f bad.json)"
+    done
+    same 'at -f' "$(lines 'status 0' 'out: found number 1..2')" "$(told at /0 -f good.json)"
+    same 'get -f' "$(lines 'status 0' 'out: 1')" "$(told get -f good.json /0)"
+    same 'each -f' "$(lines 'status 0' 'out: 1')" "$(told each -f good.json)"
+}
+
 several_sequences_have_each_element_behind_their_name() {
     same 'two sequences' "$(lines 'status 1' 'out: log: 1..5 accepted' 'out: log: 6..7 may be cut' 'out: whole.log: 1..4 accepted')" "$(told seq log whole.log)"
     printf '' >empty
@@ -68,7 +97,7 @@ what_is_not_to_be_had_is_told_and_the_rest_goes_on() {
             "$(told check good.json /proc/self/mem bad.json)"
     fi
     if [ -w /dev/full ]; then
-        same 'nowhere to write to' "$(lines 'jx: write failed' 'status 2')" "$("$program" check good.json bad.json 2>&1 >/dev/full; echo "status $?")"
+        same 'nowhere to write to' "$(lines 'jx: write failed: No space left on device' 'status 2')" "$("$program" check good.json bad.json 2>&1 >/dev/full; echo "status $?")"
         same 'nowhere to tell to' "$(lines 'good.json: accepted' 'status 2')" "$("$program" check missing good.json 2>/dev/full; echo "status $?")"
     fi
 }
@@ -140,6 +169,8 @@ an_input_that_ends_early_is_truncated() {
 make_files
 tests one_file_is_answered_as_by_its_option \
     several_files_are_checked_in_their_order \
+    one_file_has_its_name_where_that_is_asked_for \
+    the_option_for_a_file_is_a_letter_too \
     several_sequences_have_each_element_behind_their_name \
     what_is_not_to_be_had_is_told_and_the_rest_goes_on \
     standard_input_is_named_once \

@@ -79,9 +79,14 @@ the_nearest_right_word_is_told() {
     has 'an index is not for check' "error: unexpected argument '--index' found" "$(said '' check --index a.jxi)"
     has 'whole needs the end' 'error: the following required arguments were not provided:' "$(said '' whole)"
     has 'color is for explain alone' "error: unexpected argument '--color' found" "$(said '' check --color never)"
-    has 'a format is for check alone' "error: unexpected argument '--format' found" "$(said '' explain --format json)"
-    has 'a list is for check alone' "error: unexpected argument '-l' found" "$(said '' seq -l)"
+    has 'a format is for check and lines' "error: unexpected argument '--format' found" "$(said '' explain --format json)"
+    has 'a list is for check and lines' "error: unexpected argument '-l' found" "$(said '' seq -l)"
     has 'a wrong format' "error: invalid value 'red' for '--format <FORMAT>'" "$(said '' check --format red)"
+    has 'names are for what takes several files' "error: unexpected argument '-H' found" "$(said '' explain -H)"
+    has 'and for no pointers' "error: unexpected argument '-H' found" "$(said '' get -H /a)"
+    has 'a wrong option' "tip: a similar argument exists: '--with-filename'" "$(said '' check --with-file a)"
+    has 'a wrong option' "tip: a similar argument exists: '--format'" "$(said '' lines --formt gnu)"
+    has 'a wrong option of explain' "tip: a similar argument exists: '--verbose'" "$(said '' explain --verbos a)"
     has 'a wrong color' "error: invalid value 'red' for '--color <WHEN>'" "$(said '' explain --color red)"
 }
 

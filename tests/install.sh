@@ -44,9 +44,11 @@ it_installs_all_that_it_says() {
     done
     has 'a folder that is not on the PATH' "$prefix/bin is not on the PATH" "$said"
     if command -v pkg-config >/dev/null; then
-        has 'a folder that pkg-config does not know' "export PKG_CONFIG_PATH=$prefix/lib/pkgconfig" "$said"
+        has 'a folder that pkg-config does not know' "export PKG_CONFIG_PATH='$prefix/lib/pkgconfig'\"\${PKG_CONFIG_PATH:+:\$PKG_CONFIG_PATH}\"" "$said"
     fi
-    has 'a folder that the loader does not know' "export LD_LIBRARY_PATH=$prefix/lib" "$said"
+    has 'a folder that the loader does not know' "export LD_LIBRARY_PATH='$prefix/lib'\"\${LD_LIBRARY_PATH:+:\$LD_LIBRARY_PATH}\"" "$said"
+    same 'its line keeps what was there' "$prefix/lib:/nowhere" "$(export LD_LIBRARY_PATH=/nowhere; eval "$(grep -o 'export LD_LIBRARY_PATH=.*' <<<"$said")"; echo "$LD_LIBRARY_PATH")"
+    same 'and adds no empty folder' "$prefix/lib" "$(unset LD_LIBRARY_PATH; eval "$(grep -o 'export LD_LIBRARY_PATH=.*' <<<"$said")"; echo "$LD_LIBRARY_PATH")"
     same 'the library for development' libjx.so.0 "$(readlink "$prefix/lib/libjx.so")"
     same 'nothing else is there' 11 "$(find home -type f | wc -l)"
 }
@@ -91,11 +93,12 @@ what_is_not_built_is_built_in_one_build() {
     local other="$room/another clone"
     cp -a "$clone" "$other"
     # A build that notes what it is asked for, and takes it for built.
-    printf '#!/bin/sh\necho "$@" >>"%s"\ntouch "%s/jx.stamp" "%s/jx.server.stamp"\n' "$room/asked" "$other" "$other" >"$other/tools/build"
+    printf '#!/bin/sh\necho "$@" >>"%s"\necho "jx: proved a crate" >&2\ntouch "%s/jx.stamp" "%s/jx.server.stamp"\n' "$room/asked" "$other" "$other" >"$other/tools/build"
     rm "$other/jx.stamp" "$other/jx.server.stamp"
-    "$other/install" "$room/third place" >/dev/null
+    "$other/install" "$room/third place" >/dev/null 2>said
     same 'what is not built: status' 0 $?
     same 'what is not built: one build of both programs' 'jx jx_lsp' "$(cat "$room/asked")"
+    same 'what is not built: each crate is told' 'jx: proved a crate' "$(cat said)"
     "$other/install" "$room/third place" >/dev/null
     same 'what is built: no build' 1 "$(wc -l <"$room/asked")"
 }

@@ -38,11 +38,48 @@ c_programs_come_to_what_the_table_says() {
             continue
         fi
         is_compiled=yes
-        for name in verdicts indexed indexes finder values saved sequences lines settings documents runs compact; do
+        for name in verdicts indexed indexes shelves finder values saved sequences lines settings documents runs compact; do
             c_program "$compiler" "$name"
         done
     done
     if [ -z "$is_compiled" ]; then echo 'library.sh: skipped: there is no C compiler'; fi
+}
+
+# By the sanitizer of threads, where the compiler has it: it tells whether two threads meet at what a program in C reads or writes.
+threads_see_one_index() {
+    local compiler said sanitizer status
+    for compiler in gcc clang; do
+        if ! command -v "$compiler" >/dev/null; then continue; fi
+        sanitizer=-fsanitize=thread
+        printf 'int main(void) { return 0; }\n' >empty.c
+        if ! "$compiler" $sanitizer empty.c -o empty 2>/dev/null || ! ./empty; then
+            echo "library.sh: skipped: the sanitizer of threads of $compiler"
+            sanitizer=
+        fi
+        # shellcheck disable=SC2086
+        said=$("$compiler" -std=c11 -O1 -g -pthread -Wall -Wextra -Werror $sanitizer -I"$root/include" "$root/tests/c/threads.c" -L"$library" -ljx -o threads 2>&1)
+        same "$compiler compiles and links threads" '' "$said"
+        said=$(./threads 2>&1)
+        status=$?
+        same "$compiler: threads ends well" 0 "$status"
+        counts "${said##*$'\n'}"
+        if [ "$status" != 0 ]; then echo "${said:0:2000}"; fi
+    done
+}
+
+# With no sanitizer, as a caller has it: these take stack of their own.
+no_call_takes_more_of_the_stack() {
+    local compiler said status
+    for compiler in gcc clang; do
+        if ! command -v "$compiler" >/dev/null; then continue; fi
+        said=$("$compiler" -std=c11 -O1 -g -pthread -Wall -Wextra -Werror -I"$root/include" "$root/tests/c/stack.c" -L"$library" -ljx -o stack 2>&1)
+        same "$compiler compiles and links stack" '' "$said"
+        said=$(./stack 2>&1)
+        status=$?
+        same "$compiler: stack ends well" 0 "$status"
+        counts "${said##*$'\n'}"
+        if [ "$status" != 0 ]; then echo "${said:0:2000}"; fi
+    done
 }
 
 c_plus_plus_takes_the_header() {
@@ -74,7 +111,7 @@ each_call_is_a_symbol() {
     said=$(nm -D --defined-only "$library/libjx.so.0" | sed 's/.* //')
     while read -r name; do
         same "the shared library exports $name" 1 "$(grep -cx "$name" <<<"$said")"
-    done < <(grep -oE '^(static inline )?(uint32_t|void) jx_[a-z_]+\(' "$root/include/jx.h" | sed 's/.* //; s/($//')
+    done < <(grep -oE '^(static inline )?(uint32_t |void |const char \*)jx_[a-z_]+\(' "$root/include/jx.h" | sed 's/.*[ *]//; s/($//')
     same 'it exports nothing else' '' "$(grep -v '^jx_' <<<"$said")"
     if command -v python3 >/dev/null; then
         same 'a call by its name alone answers null pointers' '0 0 10' "$(python3 - "$library/libjx.so.0" <<'PYTHON'
@@ -85,6 +122,26 @@ print(library.jx_check(b"null", ctypes.c_size_t(4), None, verdict), verdict[1], 
 PYTHON
         )"
     fi
+}
+
+# By the names in jx.h, and by numbers that no status has.
+each_status_has_its_name() {
+    if ! command -v python3 >/dev/null; then return; fi
+    same 'jx_status_name' '' "$(python3 - "$library/libjx.so.0" "$root/include/jx.h" 2>&1 <<'PYTHON'
+import ctypes, re, sys
+name_of = ctypes.CDLL(sys.argv[1]).jx_status_name
+name_of.restype = ctypes.c_char_p
+with open(sys.argv[2]) as header:
+    statuses = re.search(r"/\* Statuses\. \*/\nenum \{(.*?)\n\};", header.read(), re.S).group(1)
+names = {int(number): name for name, number in re.findall(r"(JX_\w+) = (\d+)", statuses)}
+if len(names) < 35:
+    print("jx.h has", len(names), "statuses")
+for number in [*range(64), 2**32 - 1]:
+    told = name_of(ctypes.c_uint32(number)).decode()
+    if told != names.get(number, "?"):
+        print(number, "is", told)
+PYTHON
+    )"
 }
 
 # The program of README, compiled by the line that README prints, once what ./install says is exported.
@@ -120,9 +177,12 @@ the_versions_are_the_same() {
 # Without a library there is nothing else to test; a compiler may be missing.
 if "$root/tools/library" >built 2>&1; then
     tests c_programs_come_to_what_the_table_says \
+        threads_see_one_index \
+        no_call_takes_more_of_the_stack \
         c_plus_plus_takes_the_header \
         the_tests_of_the_rust_binding_pass \
         each_call_is_a_symbol \
+        each_status_has_its_name \
         the_program_of_readme_prints_what_it_says \
         the_versions_are_the_same
 else

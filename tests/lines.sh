@@ -61,6 +61,39 @@ several_workers_tell_the_same() {
     has 'an empty piece' 'piece' "$(said '' lines --piece 0 numbers)"
 }
 
+editors_and_machines_have_each_line_in_their_form() {
+    local text='1\n[1,}\n\n[[]]\n[2\n3'
+    same 'gnu' "$(all 'status 1' 'out: -:2:4: stopped at 5' 'out: -:3:1: blank' 'out: -:4:2: too deep at 9' 'out: -:5:3: truncated' 'out: -:6:2: may be cut')" \
+        "$(said "$text" lines --format gnu --depth 1)"
+    same 'json' "$(all 'status 1' 'out: {"name":"-","line":2,"column":4,"start":2,"end":6,"offset":5,"verdict":"stopped"}' \
+        'out: {"name":"-","line":3,"column":1,"start":7,"end":7,"offset":7,"verdict":"blank"}' \
+        'out: {"name":"-","line":4,"column":2,"start":8,"end":12,"offset":9,"verdict":"too deep"}' \
+        'out: {"name":"-","line":5,"column":3,"start":13,"end":15,"offset":15,"verdict":"truncated"}' \
+        'out: {"name":"-","line":6,"column":2,"start":16,"end":17,"offset":17,"verdict":"may be cut"}' \
+        'out: {"name":"-","accepted":1,"refused":5}')" "$(said "$text" lines --format json --depth 1)"
+    same 'plain is the default' "$(said "$text" lines)" "$(said "$text" lines --format plain)"
+    same 'gnu, all are texts' 'status 0' "$(said '1\n' lines --format gnu)"
+    printf 'x\n' >'q"x'
+    same 'a name' "$(all 'status 1' 'out: q"x:1:1: stopped at 0')" "$(said '' lines --format gnu 'q"x')"
+    same 'an escape in a name' "$(all 'status 1' 'out: {"name":"q\"x","line":1,"column":1,"start":0,"end":1,"offset":0,"verdict":"stopped"}' \
+        'out: {"name":"q\"x","accepted":0,"refused":1}')" "$(said '' lines --format json 'q"x')"
+    same 'several files' "$(all 'status 1' 'out: q"x:1:1: stopped at 0' 'out: -:1:1: stopped at 0')" "$(said 'y\n' lines --format gnu 'q"x' -)"
+    same 'each object is a text' 2 "$("$program" lines --format json 'q"x' | "$program" lines | sed -n 's/accepted \(.*\), refused 0/\1/p')"
+    rm 'q"x'
+    has 'a wrong format' "error: invalid value 'xml' for '--format <FORMAT>'" "$(said '' lines --format xml)"
+}
+
+files_with_refused_lines_are_listed() {
+    printf '1\nx\n' >bad
+    printf '[]\n' >good
+    same 'of two' "$(all 'status 1' 'out: bad')" "$(said '' lines -l good bad)"
+    same 'one that is refused' "$(all 'status 1' 'out: bad')" "$(said '' lines --list bad)"
+    same 'one that is accepted' 'status 0' "$(said '' lines -l good)"
+    same 'standard input' "$(all 'status 1' 'out: -')" "$(said 'x\n' lines -l)"
+    same 'one that is missing' "$(all 'status 2' 'out: bad' 'err: jx: missing: cannot open: No such file or directory')" "$(said '' lines -l missing bad)"
+    has 'a list and a format' "error: the argument '--list' cannot be used with '--format <FORMAT>'" "$(said '' lines -l --format gnu bad)"
+}
+
 several_files_have_each_line_behind_their_name() {
     printf '1\nx\n' >a
     printf '[]\n' >'b: c'
@@ -93,7 +126,7 @@ what_cannot_be_read_or_written() {
     same 'a folder' "$(all 'status 2' 'err: jx: .: is a directory')" "$(said '' lines .)"
     same 'a folder as standard input' "$(all 'jx: -: read failed: Is a directory' 'status 2')" "$("$program" lines <. 2>&1; echo "status $?")"
     if [ -w /dev/full ]; then
-        same 'nowhere to write to' "$(all 'jx: write failed' 'status 2')" "$(printf 'x\n' | "$program" lines 2>&1 >/dev/full; echo "status $?")"
+        same 'nowhere to write to' "$(all 'jx: write failed: No space left on device' 'status 2')" "$(printf 'x\n' | "$program" lines 2>&1 >/dev/full; echo "status $?")"
         same 'quiet, and nowhere to write to' 'status 1' "$(printf 'x\n' | "$program" lines -q 2>&1 >/dev/full; echo "status $?")"
     fi
     has 'standard input twice' "the word '-' stands for standard input, which is read once" "$(said '' lines - -)"
@@ -114,6 +147,8 @@ tests lines_are_told_as_an_independent_reader_has_them \
     a_mark_is_of_the_input_and_of_no_line \
     several_workers_tell_the_same \
     several_files_have_each_line_behind_their_name \
+    editors_and_machines_have_each_line_in_their_form \
+    files_with_refused_lines_are_listed \
     lines_are_told_while_the_input_is_read \
     what_cannot_be_read_or_written \
     a_closed_pipe_ends_it_without_a_word

@@ -64,7 +64,7 @@ what_cannot_be_asked_read_or_written() {
     same 'no file' "$(all 'status 2' 'err: jx: missing: cannot open: No such file or directory')" "$(said '' seq --live missing)"
     same 'a folder as standard input' "$(all 'jx: -: read failed: Is a directory' 'status 2')" "$("$program" seq --live <. 2>&1; echo "status $?")"
     if [ -w /dev/full ]; then
-        same 'nowhere to write to' "$(all 'jx: write failed' 'status 2')" "$(printf '\036x\n' | "$program" seq --live 2>&1 >/dev/full; echo "status $?")"
+        same 'nowhere to write to' "$(all 'jx: write failed: No space left on device' 'status 2')" "$(printf '\036x\n' | "$program" seq --live 2>&1 >/dev/full; echo "status $?")"
         same 'quiet, and nowhere to write to' 'status 1' "$(printf '\036x\n' | "$program" seq --live -q 2>&1 >/dev/full; echo "status $?")"
     fi
 }

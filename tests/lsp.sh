@@ -45,7 +45,7 @@ changes_are_followed() {
 }
 
 lines_are_told() {
-    local told='500 changes are told as jx lines tells them' language name wanted options text
+    local told='500 changes are told as jx lines tells them' language name wanted options text count
     same 'random changes of JSON Lines' "$(printf '%s\n' "$told" "$told" "$told" "$told")" "$(played replays_of_lines 2000)"
     while read -r language name wanted; do
         same "the language $language of $name" "$wanted" "$(played content_of "$language" "$name")"
@@ -75,6 +75,8 @@ null||0
 null|{}\r\n[]\n"a"|0
 null|\n|blank: the line is blank 0:0 0:0; 1
 null|{}\n \r\n{}\n|blank: the line is blank 1:0 1:2; 1
+null|\n{}\n\n \n|blank: the line is blank 0:0 0:0; more: more lines that are no JSON texts: 2 0:0 0:0; 2
+null|[\n\n]\n\n|truncated: the text ends where a value or ] is expected 0:0 0:1; blank: the line is blank 1:0 1:0; stopped: expected a value, found ] (byte 3) 2:0 2:1; more: more lines that are no JSON texts: 1 0:0 0:1; 4
 null|1\n1|may be cut: the value may be cut: nothing behind it ends it 1:0 1:1; 1
 null|{}\ntrue |0
 null|[\n]\n|truncated: the text ends where a value or ] is expected 0:0 0:1; stopped: expected a value, found ] (byte 2) 1:0 1:1; 2
@@ -87,6 +89,12 @@ null|\ufeff{}\n{}\n|stopped: a byte order mark stands in front of the text (byte
 {"ignoreBom":true}|\ufeff{\n{}\n|truncated: the text ends where a string or } is expected 0:1 0:2; 1
 {"ignoreBom":true}|{}\n\ufeff{}\n|stopped: a byte order mark stands in front of the text (byte 3) 1:0 1:1; 1
 LINES
+    while IFS='|' read -r count wanted; do
+        same "$count bad lines" "$wanted" "$(played bad_lines "$count")"
+    done <<'COUNTS'
+1001|1000 marks; more lines that are no JSON texts: 1
+10001|1000 marks; more lines that are no JSON texts: 9001
+COUNTS
 }
 
 settings_are_kept() {

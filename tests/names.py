@@ -1,7 +1,8 @@
 """What each name means: names.py QUESTION [ROOT] prints what is wrong, a line each.
 
-    parts       crates.txt has its parts, a crate stands on crates above it, and docs/ARCHITECTURE.md has the same parts
-    words       the glossary of docs/ARCHITECTURE.md has each word once, and each stands in the code or the docs
+    parts       crates.txt has its parts, a crate stands on crates above it, and each has one layer of docs/ARCHITECTURE.md, not below those
+                that it stands on
+    words       the glossary of docs/ARCHITECTURE.md has each word once, 30 at most, and each stands in the code or the docs
     types       no public type of the product has the name of another crate's
     format      the words of docs/FORMAT.md's tables are those of the definitions
 """
@@ -56,20 +57,29 @@ def wrong_parts():
             yield from ("%s of %s stands on %s" % (name, part, it) for it in below if it in apart and part not in APART)
             above.append(name)
             apart += [name] if part in APART else []
-    tables = dict(re.findall(r"^### (.*)\n\n\| Crate \|.*\n.*\n((?:\|.*\n)+)", text_of("docs/ARCHITECTURE.md"), re.M))
-    if list(tables) != [part[0].upper() + part[1:] for part in found]:
-        yield "ARCHITECTURE.md has the parts %s" % ", ".join(tables)
-    for part, rows in zip(found, tables.values()):
-        named = [name for row in rows.splitlines() for name in re.findall(r"`((?:jx|test_)\w*)`", row.split("|")[1])]
-        if named != list(found[part]):
-            yield "%s: ARCHITECTURE.md has %s" % (part, " ".join(named))
+    yield from wrong_layers(found)
+
+
+def wrong_layers(found):
+    table = re.search(r"^\| Layer \|.*\n.*\n((?:\|.*\n)+)", text_of("docs/ARCHITECTURE.md"), re.M)
+    rows = table.group(1).splitlines() if table else []
+    layers = {}
+    for height, cells in enumerate(row.split("|") for row in rows):
+        for name in re.findall(r"`(\w+)`", cells[2]):
+            yield from ["ARCHITECTURE.md has %s twice" % name] if name in layers else []
+            layers[name] = height
+    listed = {name: below for part in found.values() for name, below in part.items()}
+    yield from ("ARCHITECTURE.md has no layer of %s" % name for name in listed if name not in layers)
+    yield from ("ARCHITECTURE.md has %s, which is not in crates.txt" % name for name in layers if name not in listed)
+    for name, below in listed.items():
+        yield from ("%s stands on %s of a higher layer" % (name, it) for it in below if layers.get(it, -1) > layers.get(name, len(rows)))
 
 
 def wrong_words():
     page = text_of("docs/ARCHITECTURE.md")
     front, glossary, behind = re.split(r"^## (?=Words$|Conventions$)", page, flags=re.M)
     words = re.findall(r"^\| ([a-z].*?) \|", glossary, re.M)
-    if len(words) < 20:
+    if not 20 <= len(words) <= 30:
         yield "the glossary has %d words" % len(words)
     yield from ("the glossary has %s twice" % word for word in sorted(set(words)) if words.count(word) > 1)
     paths = [path for folder in ("src", "specs") for path in (ROOT / "crates").glob("*/%s/**/*" % folder) if path.is_file()]

@@ -32,10 +32,13 @@ what_is_wrong_is_told() {
         if [ -d "$crate/specs" ]; then cp -R "$crate/specs" "copy/crates/${crate##*/}"; fi
     done
     wrong parts crates.txt 's/^jx_lex:/jx_lex: jx_report/' 'jx_lex stands on jx_report, which is no crate above it'
-    wrong parts crates.txt '/^jx_shelf:/d' 'ARCHITECTURE.md has jx_shelf'
+    wrong parts crates.txt '/^jx_shelf:/d' 'ARCHITECTURE.md has jx_shelf, which is not in crates.txt'
+    wrong parts docs/ARCHITECTURE.md 's/`jx_find`, //' 'ARCHITECTURE.md has no layer of jx_find'
+    wrong parts docs/ARCHITECTURE.md 's/, `jx_crew` |/, `jx_crew`, `jx_run` |/' 'ARCHITECTURE.md has jx_run twice'
+    wrong parts docs/ARCHITECTURE.md '/^| texts |/{h; d}; /^| tests |/{G}' 'stands on jx_run of a higher layer'
     wrong parts crates.txt 's/^# tests$/# more/' 'crates.txt has the parts'
-    wrong words docs/ARCHITECTURE.md 's/^| piece |/| batch |/' 'the glossary has batch twice'
-    wrong words docs/ARCHITECTURE.md 's/^| piece |/| morsel |/' 'nothing else has the word morsel'
+    wrong words docs/ARCHITECTURE.md 's/^| chunk |/| batch |/' 'the glossary has batch twice'
+    wrong words docs/ARCHITECTURE.md 's/^| chunk |/| morsel |/' 'nothing else has the word morsel'
     wrong types crates/jx_edit/src/lib.rt '$a pub struct Verdict;' 'Verdict is a public type of jx_edit jx_run'
     wrong types crates/jx_serve/src/mark.rt 's/^pub struct Mark /pub struct Diagnostic /' 'Mark is shared no longer by jx_lex jx_serve'
     wrong format docs/FORMAT.md 's/^| `transitions` |/| `ways` |/' 'no definition has the word ways'

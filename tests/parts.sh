@@ -129,7 +129,7 @@ ends_that_fail_are_told() {
     done
     if [ -w /dev/full ]; then
         for command in 'part' 'join' 'whole --to 5 --from 0'; do
-            same "nowhere to write to: $command" "$(lines 'jx: write failed' 'status 2')" "$("$program" $command <a 2>&1 >/dev/full; echo "status $?")"
+            same "nowhere to write to: $command" "$(lines 'jx: write failed: No space left on device' 'status 2')" "$("$program" $command <a 2>&1 >/dev/full; echo "status $?")"
         done
         same 'quiet, and nowhere to write to' 'status 1' "$("$program" whole --to 5 -q <a 2>&1 >/dev/full; echo "status $?")"
     fi

@@ -32,7 +32,7 @@ texts_are_checked_before_a_commit() {
     said=$(git commit -m two 2>&1)
     same 'a commit of what is no text: status' 1 $?
     has 'it names the file and the place' 'not good.json:1:6: expected a value, found } (byte 5)' "$said"
-    has 'it names the others' 'good.json: accepted' "$said"
+    same 'nothing is told of the others' '' "$(grep accepted <<<"$said")"
     git rm -q --cached 'not good.json'
     git commit -qm one >/dev/null 2>&1
     same 'a commit of texts: status' 0 $?
@@ -60,6 +60,10 @@ lines_are_checked_before_a_commit() {
     said=$(git commit -m two 2>&1)
     same 'a commit of a line that is no text: status' 1 $?
     has 'it names the file and the line' 'bad.jsonl: 2 8..13 truncated' "$said"
+    git rm -q --cached good.ndjson
+    said=$(git commit -m bad 2>&1)
+    has 'it names the file where one alone is staged' 'bad.jsonl: 2 8..13 truncated' "$said"
+    git add good.ndjson
     git rm -q --cached bad.jsonl
     git commit -qm one >/dev/null 2>&1
     same 'a commit of lines that are texts: status' 0 $?

@@ -59,7 +59,7 @@ what_cannot_be_told() {
     has 'progress is for check, each and save alone' "error: unexpected argument '--progress' found" "$(said '' seq --progress always)"
     if [ -w /dev/full ]; then
         same 'nowhere to tell' accepted "$("$program" check --progress always long 2>/dev/full)"
-        same 'a fault ends the line' 'jx: write failed' "$("$program" each --progress always '' long 2>&1 >/dev/full | tail -n 1)"
+        same 'a fault ends the line' 'jx: write failed: No space left on device' "$("$program" each --progress always '' long 2>&1 >/dev/full | tail -n 1)"
     fi
 }
 

@@ -1,7 +1,8 @@
-"""What docs/PROVED.md and the README of each crate say of the sources: proved.py QUESTION [ROOT] prints what is wrong, a line each.
+"""What docs/PROVED.md and the README of each crate say of the sources: proved.py QUESTION [ROOT] prints what is wrong, a line each. proved.py renew
+writes the table of docs/PROVED.md from the first sentences of the READMEs.
 
-    headings    docs/PROVED.md has each heading once and links the README of each crate that is no test, and each README has its four
-                parts, in 15 to 60 lines, and stands on what crates.txt says
+    headings    docs/PROVED.md has each heading once and links the README of each crate that is no test, with its first sentence, and each
+                README has its three parts, in 10 to 60 lines
     names       each name that a crate hands out stands in its README, and each call that a README or docs/PROVED.md names is there
     promises    each call at the front of a promise has a clause, and each clause in brackets is one of a call that stands before it;
                 where none is in brackets, the call has one alone
@@ -13,7 +14,7 @@ import sys
 
 from names import PARTS, ROOT, crates, text_of
 
-SECTIONS = ["What is here", "What is proved", "What no clause says", "What it stands on"]
+SECTIONS = ["What is here", "What is proved", "What no clause says"]
 NAMES = re.compile(r"`((?:\w+::)*\w+)`")
 GROUP = re.compile(r"\((`[\w/]+`(?:, `[\w/]+`)*)\)")
 
@@ -131,17 +132,31 @@ def wrong_headings(_):
     yield from ("PROVED.md links %s for %s" % (one, name) for name, one in linked if one != name)
     if [name for name, _ in linked] != list(products()):
         yield "PROVED.md links %s" % " ".join(name for name, _ in linked)
-    for crate, below in products().items():
+    for crate in products():
         readme = readme_of(crate)
         lines = readme.count("\n")
         headings = re.findall(r"^#+ (.*)", readme, re.M)
         if headings != ["`%s`" % crate] + SECTIONS:
             yield "%s/README.md has the headings %s" % (crate, ", ".join(headings))
-        if not 15 <= lines <= 60:
+        if not 10 <= lines <= 60:
             yield "%s/README.md has %d lines" % (crate, lines)
-        stands_on = [name for name in re.findall(r"`(\w+)`", section_of(readme, SECTIONS[3]))]
-        if stands_on != [name for name in below if name != "staticlib"]:
-            yield "%s/README.md stands on %s" % (crate, " ".join(stands_on))
+        if row_of(crate) not in page:
+            yield "PROVED.md has no row %s" % row_of(crate)
+
+
+def row_of(crate):
+    """The row of a crate in docs/PROVED.md: its link, and the first sentence of its README."""
+    head = " ".join(readme_of(crate).partition("## ")[0].partition("\n")[2].split())
+    sentence = re.match(r".*?[.](?= [A-Z]|$)", head)
+    said = re.sub(r"\]\(\.\./\.\./(?:docs/)?", lambda link: "](" if "docs/" in link.group(0) else "](../", sentence.group(0) if sentence else "")
+    return "| [`%s`](../crates/%s/README.md) | %s |" % (crate, crate, said)
+
+
+def renew():
+    page = text_of("docs/PROVED.md")
+    rows = "\n".join(row_of(crate) for crate in products())
+    table = re.compile(r"^\| Crate \| What it is \|\n\|---\|---\|\n(?:\|.*\n)*", re.M)
+    (ROOT / "docs/PROVED.md").write_text(table.sub(lambda _: "| Crate | What it is |\n|---|---|\n%s\n" % rows, page))
 
 
 def wrong_names(sources):
@@ -158,10 +173,6 @@ def wrong_names(sources):
     for name in sorted({name for name in NAMES.findall(page) if re.search("_|::", name)} - known):
         if not any(is_named(sources, crate, name) for crate in sources):
             yield "PROVED.md names %s, which is not there" % name
-    for crate, cell in re.findall(r"^\| \[`(\w+)`\]\([^|]*\) \| (.*) \|", page, re.M):
-        for name in NAMES.findall(cell):
-            if not is_named(sources, crate, name):
-                yield "PROVED.md names %s of %s, which is not there" % (name, crate)
 
 
 def wrong_promises(sources):
@@ -205,6 +216,8 @@ def wrong_paths(_):
 
 if __name__ == "__main__":
     questions = {"headings": wrong_headings, "names": wrong_names, "promises": wrong_promises, "paths": wrong_paths}
+    if sys.argv[1:] == ["renew"]:
+        raise SystemExit(renew())
     if sys.argv[1:2] == [] or sys.argv[1] not in questions:
         raise SystemExit(__doc__)
     print("\n".join(questions[sys.argv[1]]({crate: Source(crate) for crate in products()})))

@@ -42,15 +42,15 @@ what_is_wrong_is_told() {
     wrong headings docs/PROVED.md '/^| \[`jx_edit`\]/d' 'PROVED.md links jx_summary'
     wrong headings docs/PROVED.md 's|(\.\./crates/jx_edit/|(../crates/jx_find/|' 'PROVED.md links jx_find for jx_edit'
     wrong headings crates/jx_edit/README.md 's/^## What no clause says$/## What is proved/' 'jx_edit/README.md has the headings'
-    wrong headings crates/jx_edit/README.md 's/, `memchr`, `thiserror`\.$/, `thiserror`./' 'jx_edit/README.md stands on'
+    wrong headings crates/jx_edit/README.md 's/^Documents: texts/Pages: texts/' 'PROVED.md has no row | [`jx_edit`]'
+    wrong headings docs/PROVED.md 's/^| \[`jx_edit`\]\(.*\) | Doc.* |$/| [`jx_edit`]\1 | Pages. |/' 'PROVED.md has no row | [`jx_edit`]'
     wrong headings crates/jx_edit/README.md 's/^- .*/&\n\n\n/' ' lines'
     wrong names crates/jx_edit/src/lib.rt '$a pub use document_fault::Another;' 'jx_edit/README.md does not name Another'
     wrong names crates/jx_edit/README.md 's/`Document::copy`, `Document::chunks`/`Document::copy`, `Document::pieces`/' \
         'jx_edit/README.md names Document::pieces, which is not there'
     wrong names crates/jx_edit/README.md 's/`Stand`: where/`Stance`: where/' 'jx_edit/README.md names Stance, which is not there'
     wrong names crates/jx_c/README.md 's/`jx_rows`, //' 'jx_c/README.md does not name jx_rows'
-    wrong names docs/PROVED.md 's/`Document::edit`, and/`Document::change`, and/' \
-        'PROVED.md names Document::change of jx_edit, which is not there'
+    wrong names docs/PROVED.md 's/`Document::verdict` of/`Document::change` of/' 'PROVED.md names Document::change, which is not there'
     wrong names docs/PROVED.md 's/`tokens_are_read`, and `scan` gives/`tokens_are_told`, and `scan` gives/' \
         'PROVED.md names tokens_are_told, which is not there'
     wrong promises crates/jx_edit/src/document.rt 's/^        ensures err { OnErr/        ensures unchanged { OnErr/' \

@@ -93,7 +93,7 @@ faults_are_told() {
     same 'a folder' "$(lines 'status 2' 'err: jx: folder: is a directory')" "$(said '' save --file folder)"
     same 'a folder as standard input' "$(lines 'jx: -: read failed: Is a directory' 'status 2')" "$("$program" save <folder 2>&1; echo "status $?")"
     if [ -w /dev/full ]; then
-        same 'nowhere to write to' "$(lines 'jx: write failed' 'status 2')" "$(printf null | "$program" save 2>&1 >/dev/full; echo "status $?")"
+        same 'nowhere to write to' "$(lines 'jx: write failed: No space left on device' 'status 2')" "$(printf null | "$program" save 2>&1 >/dev/full; echo "status $?")"
         same 'nowhere to tell to' 'status 1' "$(printf nulx | "$program" save 2>/dev/full; echo "status $?")"
     fi
     if command -v script >/dev/null; then
@@ -140,7 +140,7 @@ what_is_wrong_with_an_index_is_told() {
     cp changed.json $'a\nb.json'
     same 'a name of two lines' "$(lines 'status 2' 'err: jx: a\x0Ab.json: changed in 0..13')" "$(looked two.jxi --file $'a\nb.json' /1)"
     if [ -w /dev/full ]; then
-        same 'nowhere to write to' "$(lines 'jx: write failed' 'status 2')" "$("$program" at --index two.jxi --file two.json /1 2>&1 >/dev/full; echo "status $?")"
+        same 'nowhere to write to' "$(lines 'jx: write failed: No space left on device' 'status 2')" "$("$program" at --index two.jxi --file two.json /1 2>&1 >/dev/full; echo "status $?")"
     fi
 }
 

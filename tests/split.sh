@@ -43,7 +43,7 @@ faults_are_told() {
     same 'a missing index' "$(lines 'status 2' 'err: jx: missing.jxi: cannot open: No such file or directory')" "$(parted missing.jxi --file two.json --parts 2)"
     same 'a missing text' "$(lines 'status 2' 'err: jx: missing.json: cannot open: No such file or directory')" "$(parted two.jxi --file missing.json --parts 2)"
     if [ -w /dev/full ]; then
-        same 'nowhere to write to' "$(lines 'jx: write failed' 'status 2')" "$("$program" split --index two.jxi --file two.json --parts 2 2>&1 >/dev/full; echo "status $?")"
+        same 'nowhere to write to' "$(lines 'jx: write failed: No space left on device' 'status 2')" "$("$program" split --index two.jxi --file two.json --parts 2 2>&1 >/dev/full; echo "status $?")"
         same 'nowhere to tell to' 'status 1' "$("$program" split --index two.jxi --file two.json --parts 2 /9 2>/dev/full; echo "status $?")"
     fi
 }

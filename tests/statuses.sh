@@ -53,7 +53,7 @@ a_fault_ends_with_status_2() {
         same 'a file that may not be read' "$(lines 'status 2' 'err: jx: shut: cannot open: Permission denied')" "$(: >shut; chmod 0 shut; said '' check shut)"
     fi
     if [ -w /dev/full ]; then
-        same 'nowhere to write to' "$(lines 'jx: write failed' 'status 2')" "$(printf null | "$program" check 2>&1 >/dev/full; echo "status $?")"
+        same 'nowhere to write to' "$(lines 'jx: write failed: No space left on device' 'status 2')" "$(printf null | "$program" check 2>&1 >/dev/full; echo "status $?")"
     fi
     has 'no number' "$(lines 'status 2' "err: error: invalid value 'x' for '--depth <N>'")" "$(said '' check --depth x)"
     has 'no command' "$(lines 'status 2' "err: error: 'jx' requires a subcommand")" "$(said '')"
@@ -198,7 +198,7 @@ a_closed_pipe_ends_a_call_without_a_word() {
     { printf '['; printf '1,%.0s' {1..100000}; printf '1]'; } >big
     { printf '\0361\n%.0s' {1..100000}; } >log
     printf '[' >bad
-    for command in 'index big' 'index --file big' 'seq log' 'seq log log' 'check big big' 'check -l bad bad' 'check --format gnu bad' 'check --format json big' 'at --file big /0 /1 /2' 'explain big' 'part --file big' 'save big' '--version'; do
+    for command in 'index big' 'index --file big' 'seq log' 'seq log log' 'check big big' 'check -l bad bad' 'check --format gnu bad' 'check --format json big' 'at --file big /0 /1 /2' 'explain -v big' 'part --file big' 'save big' '--version'; do
         # Its reader is gone before the call begins.
         exec 5> >(true)
         wait $!

@@ -1,7 +1,8 @@
 """What has to be read to believe an answer: the definitions that the contract of a call cites, itself or by what these cite.
 
     trust.py rows           the rows of docs/TRUST.md as the sources have them now, behind the heading of each part
-    trust.py compare [PAGE] where the page differs from that, a line each
+    trust.py compare [PAGE].. where the page differs from that, a line each; of several pages, behind the name of each
+    trust.py definitions [CRATE]  what each file of definitions says in its head comment
     trust.py renew          puts counts, and the rows of further commands, into the page; what is missing of the first part is told
 
 A definition is a function, a record or a data type of a file of crates/*/specs. From each clause of a contract the names are followed that
@@ -34,6 +35,7 @@ ALL = without("", "")
 # Each part of the page: its heading, the calls that it is about, and the cases that are left out.
 COMMANDS = {
     "`jx check`": (REPORT, without("Index At Seq")),
+    "`check` of a file by several workers": ({"jx_parallel_report/src/reporting": ["report_at"]}, without("Index At Seq")),
     "`--unique-names`": (REPORT, without("Index At Seq", "Any")),
     "`index`": (REPORT, without("Check At Seq")),
     "`at`": (REPORT, without("Check Index Seq")),
@@ -62,6 +64,18 @@ COMMANDS = {
     "The language server": ({"jx_lsp/src/serve": ["serve"]}, without("Index At Seq")),
 }
 FIRST = "`jx check`"
+# The parts that a part counts as read, beside the first one.
+BEYOND = {
+    "`get`": ["`at`"],
+    "`get --lines`": ["`lines`", "`get`"],
+    "`seq --live`": ["`seq`"],
+    "`at --index`": ["`at`", "`save`"],
+    "`get --index`": ["`at --index`", "`get`"],
+    "`split`": ["`at --index`", "`each`"],
+    "`part`, `join`, `whole`": ["`save`"],
+    "Documents": ["`save`"],
+    "The language server": ["`at`", "`lines`", "Documents"],
+}
 # What crates.txt names of the library.
 LIBRARY = {"core", "std_alloc"}
 
@@ -343,7 +357,7 @@ def further_rows(rows, library):
     crates = {}
     for path, (needed, count) in sorted(rows.items()):
         crate, _, rest = path.partition("/")
-        crates.setdefault(crate, []).append("%s %d" % (file_cell(rest, needed), count))
+        crates.setdefault(crate, []).append("%s %d" % (file_cell(rest.removesuffix(".antt"), needed), count))
     found = ["| `%s` | %s |" % (crate, ", ".join(cells)) for crate, cells in crates.items()]
     if library:
         found.append("| the library | %s |" % ", ".join("`%s`" % name for name in library))
@@ -365,6 +379,7 @@ def short(modules):
     return sorted(module.replace("Rattle.std.specs.", "").replace("Rattle.", "") for module in modules)
 
 
+@functools.cache
 def parts():
     """For each heading of the page, its rows and its sentences."""
     reaches = {heading: Reach(*calls) for heading, calls in COMMANDS.items()}
@@ -372,10 +387,20 @@ def parts():
     found = {FIRST: (first_rows(first), [sum_of(first.rows()), ", ".join("`%s`" % name for name in short(first.library))])}
     for heading, reach in reaches.items():
         if heading != FIRST:
+            read = [reaches[one] for one in [FIRST, *all_beyond(heading)]]
             # What is needed of a file of code counts where more of it is needed than there.
-            rows = {path: row for path, row in reach.rows().items() if first.rows().get(path) != row}
-            found[heading] = (further_rows(rows, short(reach.library - first.library)), [sum_of(rows)])
+            rows = {path: row for path, row in reach.rows().items() if row not in [other.rows().get(path) for other in read]}
+            library = reach.library.difference(*(other.library for other in read))
+            beyond = " beyond " + ", ".join(BEYOND[heading]) if heading in BEYOND else ""
+            found[heading] = (further_rows(rows, short(library)), [sum_of(rows) + beyond])
     return found, reaches
+
+
+def all_beyond(heading):
+    """The parts that count as read before this one, and before those."""
+    for one in BEYOND.get(heading, []):
+        yield one
+        yield from all_beyond(one)
 
 
 def page_parts(page):
@@ -417,8 +442,10 @@ def wrong_ported(page):
             yield "%s: the ported crate %s is named in one of %s and crates.txt" % (name, crate, name)
 
 
-def left_over(reaches):
+@functools.cache
+def left_over():
     """What is needed of a report on some task, or of any command with unique names, and of none of the parts that are about these."""
+    _, reaches = parts()
     unique = reaches["`--unique-names`"].definitions
     found = Reach(REPORT, ALL).definitions.difference(*(reaches[part].definitions for part, (calls, _) in COMMANDS.items() if calls is REPORT))
     for part, (calls, left_out) in COMMANDS.items():
@@ -438,7 +465,7 @@ def differences(page):
         told += ["%s: stands twice: %s" % (heading, row) for row in set(shown) if shown.count(row) > 1]
         told += ["%s: is not said: %s" % (heading, said) for said in sentences if said not in " ".join(words.split())]
     told += ["nothing above cites it: " + row for row in in_order(table_rows(on_page.get(FIRST, ""), 2), reaches[FIRST])]
-    return told + ["no part has what is needed of %s in %s" % (name, path) for path, name in sorted(left_over(reaches))]
+    return told + ["no part has what is needed of %s in %s" % (name, path) for path, name in sorted(left_over())]
 
 
 def renewed(heading, words, rows, total):
@@ -462,13 +489,25 @@ def renew():
     print("\n".join(differences(PAGE.read_text())))
 
 
+def heads(crate="*"):
+    """Each file of definitions that public contracts may cite, and its head comment."""
+    for path in sorted(CRATES.glob(crate + "/specs/*.antt")):
+        if path.stem not in ("Lib", "inside"):
+            comment = re.match(r"(?:--.*\n)*", path.read_text()).group(0)
+            yield str(path.relative_to(CRATES)), " ".join(line.lstrip("- ") for line in comment.splitlines())
+
+
 def main(words):
     if words[:1] == ["rows"]:
         for heading, (rows, sentences) in parts()[0].items():
             print("\n".join(["## " + heading, *sentences, *rows, ""]))
-    elif words[:1] == ["compare"] and len(words) <= 2:
-        page = pathlib.Path(words[1]) if words[1:] else PAGE
-        print("\n".join(differences(page.read_text())))
+    elif words[:1] == ["compare"]:
+        for page in words[1:] or [PAGE]:
+            if words[2:]:
+                print("== %s" % page)
+            print("\n".join(differences(pathlib.Path(page).read_text())))
+    elif words[:1] == ["definitions"] and len(words) <= 2:
+        print("\n".join("%s: %s" % one for one in heads(*words[1:])))
     elif words == ["renew"]:
         renew()
     else:

@@ -13,14 +13,18 @@ the_page_has_what_the_contracts_reach() {
     same 'TRUST.md and the sources' '' "$said"
 }
 
-# wrong NAME SCRIPT TOLD: a page that the sed script makes wrong is told by these words.
+# wrong NAME SCRIPT TOLD: a page that the sed script makes wrong is told by these words, once all such pages were compared.
+pages=0
 wrong() {
-    sed "$2" "$page" >wrong.md
-    same "$1: the page differs" yes "$(cmp -s "$page" wrong.md || echo yes)"
-    has "$1" "$3" "$(compared wrong.md)"
+    pages=$((pages + 1))
+    sed "$2" "$page" >"wrong.$pages"
+    same "$1: the page differs" yes "$(cmp -s "$page" "wrong.$pages" || echo yes)"
+    printf '%s\n' "$1" >"name.$pages"
+    printf '%s\n' "$3" >"told.$pages"
 }
 
 a_page_that_is_wrong_is_told() {
+    local each
     wrong 'a file that is left out' '/^| `jx_run\/specs\/Grammar.antt`/d' \
         '`jx check`: is left out: | `jx_run/specs/Grammar.antt` |'
     wrong 'a declaration that is left out' '/^| `Exit` of /d' '`jx check`: is left out: | `Exit` of `jx_ends/src/exit.rt` |'
@@ -31,20 +35,20 @@ a_page_that_is_wrong_is_told() {
     wrong 'a file in front of what cites it' '/^| `report` of /{h; d}; /^| `jx_run\/specs\/Tree.antt`/{G}' \
         'nothing above cites it: '
     wrong 'a wrong sum' 's/^    [0-9]* lines of definitions in 13 files/    1 lines of definitions in 13 files/' '`jx check`: is not said: '
-    wrong 'a file that a further command needs' 's/`specs\/Repeats.antt` [0-9]*, //' '`--unique-names`: is left out: | `jx_index` |'
+    wrong 'a file that a further command needs' 's/`specs\/Repeats` [0-9]*, //' '`--unique-names`: is left out: | `jx_index` |'
     wrong 'a ported crate that is left out' 's/ `simdutf8`,//' 'the ported crate simdutf8 is named in one of TRUST.md and crates.txt'
     wrong 'a part that is left out' '/^### `lines`/d' '`lines`: is left out: '
+    compared wrong.* | awk '/^== / { page = $2; next } { print >("said." substr(page, 7)) }'
+    for each in name.*; do
+        has "$(cat "$each")" "$(cat "told.${each#name.}")" "$(cat "said.${each#name.}")"
+    done
 }
 
-# Sentences of the page, without its tables and lists of files.
-sentences() {
-    sed -e '/^|/d; /^    /d; /^#/d; s/^- //' "$page" | awk 'BEGIN { RS = "" } { gsub(/\n/, " "); print }' | sed 's/\([.:]\) \([A-Z]\)/\1\n\2/g'
-}
-
-no_sentence_is_long() {
-    same 'sentences of more than 30 words' '' "$(sentences | awk 'NF > 30')"
+each_file_of_definitions_says_what_it_defines() {
+    same 'files of definitions without a head comment' '' "$(python3 "$root/tests/trust.py" definitions | grep ': *$')"
+    has 'the head comment of a file' 'jx_run/specs/Text.antt: JSON texts (RFC 8259, section 2)' "$(python3 "$root/tests/trust.py" definitions jx_run)"
 }
 
 tests the_page_has_what_the_contracts_reach \
     a_page_that_is_wrong_is_told \
-    no_sentence_is_long
+    each_file_of_definitions_says_what_it_defines

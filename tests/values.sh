@@ -145,16 +145,16 @@ values_by_an_index() {
     "$program" get --index long.jxi --file long /0 /1 '' /50000 >got
     same 'values of many chunks' same "$(cmp -s wanted got && echo same)"
     if [ -w /dev/full ]; then
-        same 'nowhere to write to by an index' "$(lines 'jx: write failed' 'status 2')" "$("$program" get --index many.jxi --file many /a 2>&1 >/dev/full; echo "status $?")"
+        same 'nowhere to write to by an index' "$(lines 'jx: write failed: No space left on device' 'status 2')" "$("$program" get --index many.jxi --file many /a 2>&1 >/dev/full; echo "status $?")"
         same 'nowhere to tell to by an index' "$(lines '' 'status 1')" "$("$program" get --index many.jxi --file many /d 2>/dev/full; echo "status $?")"
     fi
 }
 
 what_cannot_be_written_or_told() {
     if [ -w /dev/full ]; then
-        same 'nowhere to write to' "$(lines 'jx: write failed' 'status 2')" "$(printf '{"a":1}' | "$program" get /a /b 2>&1 >/dev/full; echo "status $?")"
+        same 'nowhere to write to' "$(lines 'jx: write failed: No space left on device' 'status 2')" "$(printf '{"a":1}' | "$program" get /a /b 2>&1 >/dev/full; echo "status $?")"
         same 'nowhere to tell to' "$(lines 1 '' 'status 1')" "$(printf '{"a":1}' | "$program" get /a /b 2>/dev/full; echo "status $?")"
-        same 'nowhere to write much to' "$(lines 'jx: write failed' 'status 2')" "$("$program" get '' <text 2>&1 >/dev/full; echo "status $?")"
+        same 'nowhere to write much to' "$(lines 'jx: write failed: No space left on device' 'status 2')" "$("$program" get '' <text 2>&1 >/dev/full; echo "status $?")"
         same 'a refused text, and nowhere to write to' "$(lines 'jx: stopped at 0' 'status 1')" "$(printf x | "$program" get '' 2>&1 >/dev/full; echo "status $?")"
     fi
 }
@@ -233,7 +233,7 @@ open("wanted", "w").write("".join(item + "\n" for item in items[:-1]) + "[" + "1
     cat blank | "$program" each >got
     same 'the same from a pipe' same "$(cmp -s wanted got && echo same)"
     if [ -w /dev/full ]; then
-        same 'nowhere to write to' "$(lines 'jx: write failed' 'status 2')" "$("$program" each <blank 2>&1 >/dev/full; echo "status $?")"
+        same 'nowhere to write to' "$(lines 'jx: write failed: No space left on device' 'status 2')" "$("$program" each <blank 2>&1 >/dev/full; echo "status $?")"
     fi
     status=$( (trap '' PIPE; "$program" each <blank 2>err; echo $? >status) | head -c 1 >/dev/null; cat status)
     same 'a reader of elements that goes away' 'status 2, told: ' "status $status, told: $(cat err)"
@@ -289,7 +289,7 @@ values_of_lines_that_cannot_be_written_or_told() {
     yes '{"a":[1, 2]}' | head -n 200000 >many
     same 'many lines' 200000 "$("$program" get --lines /a --file many | grep -cx '\[1,2\]')"
     if [ -w /dev/full ]; then
-        same 'nowhere to write to' "$(lines 'jx: write failed' 'status 2')" "$("$program" get --lines /a --file many 2>&1 >/dev/full; echo "status $?")"
+        same 'nowhere to write to' "$(lines 'jx: write failed: No space left on device' 'status 2')" "$("$program" get --lines /a --file many 2>&1 >/dev/full; echo "status $?")"
         same 'nowhere to tell to' "$(lines '' 1 'status 1')" "$(printf '{}\n{"a":1}\n' | "$program" get --lines /a 2>/dev/full; echo "status $?")"
     fi
     status=$( (trap '' PIPE; "$program" get --lines /a --file many 2>err; echo $? >status) | head -c 1 >/dev/null; cat status)

@@ -15,6 +15,7 @@ wrong_bodies_are_not_lost() {
 
 wrong_bodies_can_be_put_in_their_places() {
     same 'each text stands once in its file' ' 0 failed' "$("$root/tools/wrong_bodies" --read | sed 's/.* passed,//')"
+    same 'each text of a row stands once in its file' ' 0 failed' "$("$root/tools/plant" --read | sed 's/.* passed,//')"
 }
 
 proved_tests_are_few() {

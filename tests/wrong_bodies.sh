@@ -126,6 +126,37 @@ status 1' "$(tail -n 2 said)"
     has 'a crate that is not proved: why' 'low/a_first: NOT TRIED: the crate is not proved as it stands' "$(grep a_first said)"
 }
 
+rows_are_judged_as_files_are() {
+    sed -i 's/self.x + 9/self.x + 3/' "$clone/crates/low/src/lib.rt"
+    mkdir "$clone/tests/plants"
+    cat >"$clone/tests/plants/low" <<'ROWS'
+breaks: the first is nine
+file: src/lib.rt
+old:     x + 1
+new:     x + 9
+
+breaks: the third is four
+file: src/lib.rt
+old: self.x + 3
+new: self.x + 4
+stays: nobody asks for it
+ROWS
+    "$clone/tools/plant" >said 2>err
+    same 'two rows: status' 0 $?
+    same 'one is refused, one may stay' 'low/the first is nine: refused: note: src/lib.rt:1:1: it is not proved that what the function ensures holds
+low/the third is four: stays, and may: nobody asks for it
+2 passed, 0 failed' "$(tail -n 3 said)"
+    same 'both in one check' '== low: 2 wrong bodies in 1 checks' "$(grep '^==' said)"
+    has 'they passed' 'rows of wrong bodies: 2 in 1 crates; last passed as the crates are now: in 1' "$("$clone/tools/plant" --passed)"
+    sed -i 's/^stays: .*//' "$clone/tests/plants/low"
+    has 'a row that stays' 'low/the third is four: STAYS' "$("$clone/tools/plant" 2>/dev/null)"
+    sed -i 's/^new: self.x + 4/new: self.x + 9\nstays: it was so/' "$clone/tests/plants/low"
+    same 'a row that is said to stay' '1 passed, 1 failed' "$("$clone/tools/plant" 2>/dev/null | tail -n 1)"
+    sed -i 's/^old: self.x + 3/old: no such text/' "$clone/tests/plants/low"
+    same 'read alone' '1 passed, 1 failed' "$("$clone/tools/plant" --read | tail -n 1)"
+    rm -r "$clone/tests/plants"
+}
+
 a_wrong_word_is_a_fault() {
     same 'no such crate' 'status 2' "$(tried high)"
     has 'no such crate: help' 'tools/wrong_bodies [CRATE..]' "$(cat err)"
@@ -139,4 +170,5 @@ tests bodies_are_judged_each_in_its_function \
     what_passed_is_noted_until_the_crate_changes \
     what_is_not_refused_fails \
     a_crate_that_is_not_proved_judges_nothing \
+    rows_are_judged_as_files_are \
     a_wrong_word_is_a_fault

@@ -233,6 +233,7 @@ def main():
     gate.tell_failures()
     print(flush=True)
     subprocess.run([ROOT / "tools/wrong_bodies", "--passed"])
+    subprocess.run([ROOT / "tools/plant", "--passed"])
     print("%d passed, %d failed" % (gate.passed, gate.failed))
     return 1 if gate.failed else 0
 

@@ -1,4 +1,5 @@
 /* The calls that jx.h defines inline, as symbols of the library: for languages that look names up and read no header. */
+#define jx_status_name jx_status_name_inline
 #define jx_check jx_check_inline
 #define jx_compact jx_compact_inline
 #define jx_reader_start jx_reader_start_inline
@@ -18,6 +19,13 @@
 #define jx_index_find jx_index_find_inline
 #define jx_index_row jx_index_row_inline
 #define jx_index_free jx_index_free_inline
+#define jx_shelf_new jx_shelf_new_inline
+#define jx_shelf_share jx_shelf_share_inline
+#define jx_shelf_put jx_shelf_put_inline
+#define jx_shelf_text jx_shelf_text_inline
+#define jx_shelf_find jx_shelf_find_inline
+#define jx_shelf_row jx_shelf_row_inline
+#define jx_shelf_free jx_shelf_free_inline
 #define jx_save_new jx_save_new_inline
 #define jx_save_new_with_names jx_save_new_with_names_inline
 #define jx_save_feed jx_save_feed_inline
@@ -49,6 +57,7 @@
 #define jx_document_copy jx_document_copy_inline
 #define jx_document_free jx_document_free_inline
 #include "jx.h"
+#undef jx_status_name
 #undef jx_check
 #undef jx_compact
 #undef jx_reader_start
@@ -68,6 +77,13 @@
 #undef jx_index_find
 #undef jx_index_row
 #undef jx_index_free
+#undef jx_shelf_new
+#undef jx_shelf_share
+#undef jx_shelf_put
+#undef jx_shelf_text
+#undef jx_shelf_find
+#undef jx_shelf_row
+#undef jx_shelf_free
 #undef jx_save_new
 #undef jx_save_new_with_names
 #undef jx_save_feed
@@ -98,6 +114,8 @@
 #undef jx_document_size
 #undef jx_document_copy
 #undef jx_document_free
+
+const char *jx_status_name(uint32_t status) { return jx_status_name_inline(status); }
 
 uint32_t jx_check(const uint8_t *text, size_t size, const jx_settings *settings, jx_verdict *verdict) {
     return jx_check_inline(text, size, settings, verdict);
@@ -160,6 +178,22 @@ uint32_t jx_index_find(jx_index *index, const uint8_t *pointer, size_t pointer_s
 uint32_t jx_index_row(jx_index *index, size_t number, jx_row *row) { return jx_index_row_inline(index, number, row); }
 
 void jx_index_free(jx_index *index) { jx_index_free_inline(index); }
+
+uint32_t jx_shelf_new(jx_shelf *shelf) { return jx_shelf_new_inline(shelf); }
+
+uint32_t jx_shelf_share(jx_shelf *shelf, jx_shelf *other) { return jx_shelf_share_inline(shelf, other); }
+
+uint32_t jx_shelf_put(jx_shelf *shelf, jx_index *index) { return jx_shelf_put_inline(shelf, index); }
+
+uint32_t jx_shelf_text(jx_shelf *shelf, jx_text *text) { return jx_shelf_text_inline(shelf, text); }
+
+uint32_t jx_shelf_find(jx_shelf *shelf, const uint8_t *pointer, size_t pointer_size, jx_answer *answer) {
+    return jx_shelf_find_inline(shelf, pointer, pointer_size, answer);
+}
+
+uint32_t jx_shelf_row(jx_shelf *shelf, size_t number, jx_row *row) { return jx_shelf_row_inline(shelf, number, row); }
+
+void jx_shelf_free(jx_shelf *shelf) { jx_shelf_free_inline(shelf); }
 
 uint32_t jx_save_new(const jx_settings *settings, size_t chunk, jx_save *save) {
     return jx_save_new_inline(settings, chunk, save);

@@ -37,6 +37,34 @@ static void get_row(jx_index *index, size_t number, const plain_rows *rows) {
     free(row);
 }
 
+/* Puts the index on a shelf, if there is one, and looks there by another handle. */
+static void look_on_a_shelf(input *in, jx_index *index, const pointers *p, const plain_rows *rows, const jx_verdict *verdict) {
+    jx_shelf shelf = {0}, other = {0};
+    uint32_t status;
+    const int is_text = index->inside != NULL;
+    CALL(status, jx_shelf_new(&shelf), shelf.inside == NULL);
+    REQUIRE(status == JX_OK && shelf.inside != NULL, "a shelf");
+    CALL(status, jx_shelf_share(&shelf, &other), other.inside == NULL);
+    REQUIRE(status == JX_OK && other.inside != NULL, "another handle of a shelf");
+    library_enter(-1);
+    status = jx_shelf_put(&shelf, index);
+    library_leave();
+    REQUIRE(status == (is_text ? JX_OK : JX_NO_INDEX) && index->inside == NULL, "an index on a shelf");
+    for (size_t k = 0; k < p->count; k++) {
+        jx_answer told = {{77, 77}, 77, 77, 77};
+        const jx_answer wanted = plain_find(in->text, rows, verdict, p->all[k].bytes, p->all[k].size);
+        library_enter(0);
+        status = jx_shelf_find(&other, p->all[k].bytes, p->all[k].size, &told);
+        library_leave();
+        REQUIRE(status == (is_text ? JX_OK : JX_NO_INDEX), "a look-up on a shelf");
+        REQUIRE(is_text ? same_answer(&told, &wanted) : told.kind == 77, "the answer of a shelf");
+    }
+    library_enter(0);
+    jx_shelf_free(&shelf);
+    jx_shelf_free(&other);
+    library_leave();
+}
+
 void look_up_in_indexes(input *in) {
     static pointers p;
     plain_rows rows;
@@ -52,6 +80,7 @@ void look_up_in_indexes(input *in) {
         find(&index, &p.all[k], is_text ? &wanted : NULL);
     }
     for (size_t k = 0; k < 24 && is_text; k++) get_row(&index, k < 4 ? rows.count - 1 + k : choice_upto(in, rows.count + 1), &rows);
+    if (choice(in) % 4 == 0) look_on_a_shelf(in, &index, &p, &rows, &verdict);
     library_enter(0);
     jx_index_free(&index);
     library_leave();

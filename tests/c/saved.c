@@ -216,7 +216,7 @@ static void containers_are_split(jx_saved *saved, size_t number) {
         memset(wanted, 0, sizeof wanted);
         memset(told, 0, sizeof told);
         const size_t wanted_count = wanted_parts(it, parts, wanted);
-        expect(jx_saved_split(saved, &it->span, parts) == JX_OK && jx_saved_answers(saved, NULL, 0) == JX_MORE_NEEDED, "a split begins", number);
+        expect(jx_saved_split(saved, &it->span, parts) == JX_OK && jx_saved_answers(saved, NULL, 0) == JX_NOT_BEGUN && jx_saved_parts(saved, told, 1, &told_count) == JX_MORE_NEEDED, "a split begins, and no look-up", number);
         expect(give_all(saved, text, &given, &last) == JX_OK && jx_saved_answers(saved, NULL, 0) == JX_NOT_BEGUN, "it is no look-up", number);
         expect(jx_saved_parts(saved, told, CHILDREN, &told_count) == JX_OK && told_count == wanted_count, "as many parts", number);
         expect(memcmp(told, wanted, sizeof told) == 0, "the parts", number);
@@ -523,7 +523,7 @@ static void null_pointers_and_orders(void) {
         static const struct { jx_span span; size_t parts; } wrong[5] = {{{3, 3}, 1}, {{3, 8}, 1}, {{4, 3}, 1}, {{3, 7}, 0}, {{3, 7}, 65537}};
         expect(jx_saved_split(&saved, &wrong[n].span, wrong[n].parts) == JX_OUT_OF_BOUNDS, "no such split", n);
     }
-    expect(jx_saved_seek(&saved, NULL, 0) == JX_OK && jx_saved_parts(&saved, &part, 1, &number) == JX_MORE_NEEDED && jx_saved_answers(&saved, &told, 1) == JX_MORE_NEEDED && jx_saved_needs(&saved, &span) == JX_OK && span.start == 0 && span.end == 7, "one chunk is needed", 904);
+    expect(jx_saved_seek(&saved, NULL, 0) == JX_OK && jx_saved_parts(&saved, &part, 1, &number) == JX_NOT_BEGUN && jx_saved_answers(&saved, &told, 1) == JX_MORE_NEEDED && jx_saved_needs(&saved, &span) == JX_OK && span.start == 0 && span.end == 7, "one chunk is needed", 904);
     expect(jx_saved_give(&saved, (const uint8_t *)"\xEF\xBB\xBF[{},", 7) == JX_CHANGED && jx_saved_give(&saved, (const uint8_t *)"\xEF\xBB\xBF[{}]", 7) == JX_OK && jx_saved_give(&saved, NULL, 0) == JX_OK && jx_saved_parts(&saved, &part, 1, &number) == JX_NOT_BEGUN && jx_saved_answers(&saved, NULL, 0) == JX_OK, "no pointers", 904);
     span = (jx_span){3, 7};
     number = 9;

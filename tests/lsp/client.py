@@ -227,9 +227,14 @@ def compare_lines(text, version, bad, said, published, encoding):
     for number, start, end, verdict in bad:
         line = data[start:end].decode()
         word, _, at = verdict.partition(" at ")
+        # Of blank lines the first alone has a mark.
+        if word == "blank" and word in [told[0] for told in wanted]:
+            continue
         message = line_sentence(text, start, line, verdict, said.get(line), encoding)
         first = start if word == "blank" else int(at) if at else len((data[:start].decode() + line[:-1]).encode())
         wanted.append((word, message, place_of_byte(text, first, encoding), number - 1))
+    if len(wanted) < len(bad):
+        wanted.append(("more", "more lines that are no JSON texts: %d" % (len(bad) - len(wanted)), *wanted[0][2:]))
     marks = published["diagnostics"]
     told = [(mark["code"], mark["message"], mark["range"]["start"], mark["range"]["end"]["line"]) for mark in marks]
     assert told == wanted, (text, wanted, told)
@@ -285,6 +290,15 @@ def told_lines(options, text):
         print("%d" % len(params["diagnostics"]))
 
 
+def bad_lines(count):
+    """How many of many bad lines are marked one by one, and what is told of the others."""
+    out, err, status = served(greeting() + opened("{\n" * int(count), 1, LINES_URI, "jsonl") + farewell())
+    assert (err, status) == (b"", 0), (err, status)
+    *marks, last = list(diagnostics(out))[0]["diagnostics"]
+    assert [mark["range"]["start"] for mark in marks] == [{"line": line, "character": 0} for line in range(len(marks))]
+    print("%d marks; %s" % (len(marks), last["message"]))
+
+
 def told(options, text):
     """Prints what is published of a text by settings."""
     out, err, status = served(greeting(json.loads(options)) + opened(text.encode().decode("unicode_escape")) + farewell())
@@ -308,7 +322,7 @@ def cut_text(text, line, start, end):
 
 BLANKS = ["", "", " ", "\n", "\r\n", "\t"]
 SCALARS = {'"é😀"': "string", '"\\u00e9\\/"': "string", "-0.5e3": "number", "10": "number", "true": "true", "false": "false", "null": "null"}
-NAMES = ['"a"', '"\\u0061"', '"b/c"', '"~"', '"~1"', '"é"', '"😀"', '"\\ud83d\\ude00"', '""', '"\\ud800"', '"\\n"', '"\\""', '"\\\\"', '"0"']
+NAMES = ['" "', '"\\t\\n"', '"\u2003"', '"\\ufeff\\u0020"', '"\\"\\udc00\\n"', '"a"', '"\\u0061"', '"b/c"', '"~"', '"~1"', '"é"', '"😀"', '"\\ud83d\\ude00"', '""', '"\\ud800"', '"\\n"', '"\\""', '"\\\\"', '"0"']
 NUMBER = re.compile(r"-?(0|[1-9][0-9]*)(\.[0-9]+)?([eE][-+]?[0-9]+)?")
 SYMBOL_KINDS = {"string": 15, "number": 16, "true": 17, "false": 17, "array": 18, "object": 19, "null": 21}
 
@@ -363,7 +377,7 @@ class Text:
             else:
                 name = json.loads(value["name"])
                 others = [json.loads(other["name"]) for other in self.values if other["parent"] is value["parent"]]
-                if others.count(name) > 1 or "\ud800" in name:
+                if others.count(name) > 1 or re.search("[\ud800-\udfff]", name):
                     return None
                 tokens.append(name.replace("~", "~0").replace("/", "~1"))
             value = value["parent"]
@@ -375,15 +389,26 @@ class Text:
         whole = value["end"] <= cut or value["kind"] == "number" and NUMBER.fullmatch(text)
         return min(value["end"], cut), not whole
 
-    def range(self, value, encoding, cut):
+    def outer(self, value):
+        """Where a member begins, at its name, or a value that has none."""
+        return value["start"] if value["name"] is None else value["named"]
+
+    def range(self, start, value, encoding, cut):
+        """A range from a character up to the end of a value."""
         end, _ = self.end(value, cut)
-        return {"start": place(self.text, value["start"], encoding), "end": place(self.text, end, encoding)}
+        return {"start": place(self.text, start, encoding), "end": place(self.text, end, encoding)}
+
+    def label(self, value, encoding, cut):
+        """The range of a member's name, or of a value that has none."""
+        if value["name"] is None:
+            return self.range(value["start"], value, encoding, cut)
+        return {"start": place(self.text, value["named"], encoding), "end": place(self.text, value["named"] + len(value["name"]), encoding)}
 
     def hover(self, at, encoding, cut=None):
-        """What is shown of the innermost value at a character."""
+        """What is shown of the innermost value at a character, or of the member whose name is there."""
         cut = len(self.text) if cut is None else cut
-        there = [value for value in self.values if value["start"] <= at < value["end"]]
-        if not there or cut <= at:
+        there = [value for value in self.values if self.outer(value) <= at < value["end"]]
+        if not there or cut <= at or cut <= there[-1]["start"]:
             return None
         value = there[-1]
         pointer = self.pointer(value)
@@ -391,7 +416,8 @@ class Text:
         end, more = self.end(value, cut)
         span = (len(self.text[:at].encode()) for at in (value["start"], end))
         shown = "%s %d..%d%s\n%s" % (value["kind"], *span, ", as far as the fault" if more else "", words)
-        return {"contents": {"kind": "plaintext", "value": shown}, "range": self.range(value, encoding, cut)}
+        start = self.outer(value) if at < value["start"] else value["start"]
+        return {"contents": {"kind": "plaintext", "value": shown}, "range": self.range(start, value, encoding, cut)}
 
     def around(self, at, here, encoding, cut):
         """The values, names and members around a character, each in its parent; where there is none, an empty range there."""
@@ -413,16 +439,24 @@ class Text:
         return [value for value in self.values if value["start"] < cut]
 
     def name(self, value):
-        return "root" if value["parent"] is None else str(value["index"]) if value["name"] is None else json.loads(value["name"]) or '""'
+        """A member's name, as it is spelt where it has half of a surrogate pair alone, or with its quotation marks where it is blank."""
+        if value["parent"] is None or value["name"] is None:
+            return "root" if value["parent"] is None else str(value["index"])
+        name = json.loads(value["name"])
+        if re.search("[\ud800-\udfff]", name):
+            return value["name"][1:-1]
+        return name if name.replace("\ufeff", "").strip() else value["name"]
 
     def symbol(self, value, encoding, cut):
-        return {"name": self.name(value), "kind": SYMBOL_KINDS[value["kind"]], "location": {"uri": URI, "range": self.range(value, encoding, cut)}}
+        there = self.range(self.outer(value), value, encoding, cut)
+        return {"name": self.name(value), "kind": SYMBOL_KINDS[value["kind"]], "location": {"uri": URI, "range": there}}
 
     def nested(self, value, encoding, cut):
         """A value, with those in it."""
-        there = self.range(value, encoding, cut)
+        there = self.range(self.outer(value), value, encoding, cut)
+        label = self.label(value, encoding, cut)
         inside = [self.nested(other, encoding, cut) for other in self.before(cut) if other["parent"] is value]
-        return {"name": self.name(value), "kind": SYMBOL_KINDS[value["kind"]], "range": there, "selectionRange": there, "children": inside}
+        return {"name": self.name(value), "kind": SYMBOL_KINDS[value["kind"]], "range": there, "selectionRange": label, "children": inside}
 
     def symbols(self, encoding, cut, nested):
         if nested:

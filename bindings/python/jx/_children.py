@@ -154,7 +154,7 @@ def _last_comma(read: Read, part: PartOf) -> int:
 
 
 def _large_child(read: Read, start: int, end: int, is_member: bool) -> Tuple[str, int, int, int]:
-    """Name, kind, start and end of a child that stands alone between two offsets, with blanks around it."""
+    """Name, kind, start and end of a child that stands alone between two offsets, with white space around it."""
     name, at = "", _past_blanks(read, start, end)
     if is_member:
         spelling = _string_at(read, at, end)
@@ -167,7 +167,7 @@ def _large_child(read: Read, start: int, end: int, is_member: bool) -> Tuple[str
 
 
 def _past_blanks(read: Read, start: int, end: int) -> int:
-    """Where the first byte stands that is no blank."""
+    """Where the first byte stands other than white space."""
     while start < end:
         piece = read(start, min(start + 4096, end))
         rest = len(piece.lstrip(_BLANKS))

@@ -37,7 +37,7 @@ def get(
     """The bytes of the value that a pointer leads to, as a memoryview of `data`: a string with its quotation marks.
 
     Raises a `NotFound` (a `KeyError` or `IndexError`) where it leads to none, unless there is a default; `BadPointer` where it is
-    none; `Refused` where the bytes are no text.
+    none; `Refused` where the bytes are not valid JSON.
     """
     try:
         outcome, at, start, end = _engine.at(data, pointer, depth, ignore_bom, unique_names)

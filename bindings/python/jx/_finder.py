@@ -67,7 +67,7 @@ class Finder:
     def end(self, default: Any = RAISE) -> List[Any]:
         """What the pointers lead to in the text of all bytes, in order. It ends the look-up.
 
-        Raises `Refused`, without line and column, where the bytes are no text; `BadPointer` where a pointer is none; and a `NotFound`
+        Raises `Refused`, without line and column, if the bytes are not valid JSON; `BadPointer` if one is no pointer; and a `NotFound`
         where one leads to no value, unless there is a default.
         """
         count = len(self._named) + 1

@@ -18,7 +18,7 @@ _ROOM = 64
 
 @dataclasses.dataclass(frozen=True)
 class Line:
-    """A line that is no text: its number, from 1; its span without the line feed; its verdict. Offsets count from the input's start."""
+    """A line that is not valid JSON: its number, from 1; its span without line feed; its verdict. Offsets count from the input's start."""
 
     number: int
     start: int
@@ -49,7 +49,7 @@ class Line:
 
 
 class LineReader:
-    """JSON Lines that come chunk by chunk. A line feed ends a line; what stands behind the last one is a line, too, unless it is empty.
+    """JSON Lines that come chunk by chunk. A line feed ends a line; what follows the last one is a line, too, unless it is empty.
 
     It keeps no byte of the input. `ignore_bom` skips a byte order mark in front of the input. Names may repeat.
     """
@@ -64,7 +64,7 @@ class LineReader:
         self._free = weakref.finalize(self, LIBRARY.jx_lines_free_non_null, ctypes.pointer(self._lines))
 
     def feed(self, chunk: Buffer) -> List[Line]:
-        """Reads the bytes behind those it was fed before, and tells the lines that end there and are no texts.
+        """Reads the bytes behind those it was fed before, and tells the lines that end there and are not valid JSON.
 
         A chunk may end anywhere, also inside a character. After a `MemoryError` the reader is lost: later calls raise `ValueError`.
         """
@@ -73,7 +73,7 @@ class LineReader:
             return self._taken()
 
     def end(self) -> List[Line]:
-        """The last line, if no line feed ends it and it is no text: a list of one line or none. More may be fed."""
+        """The last line, if no line feed ends it and it is not valid JSON: a list of one line or none. More may be fed."""
         last = self._told()[0]
         return [Line._of(last)] if last.number else []
 
@@ -84,12 +84,12 @@ class LineReader:
 
     @property
     def refused(self) -> int:
-        """How many lines are no texts, or may be cut, if the input ends here. Blank ones are not counted."""
+        """How many lines are not valid JSON, or may be cut, if the input ends here. Blank ones are not counted."""
         return int(self._told()[1].refused)
 
     @property
     def blank(self) -> int:
-        """How many lines have no byte, or blanks alone, if the input ends here."""
+        """How many lines have no byte, or white space alone, if the input ends here."""
         return int(self._told()[1].blank)
 
     def __reduce__(self) -> Tuple[Any, ...]:
@@ -123,7 +123,7 @@ class LineReader:
 
 
 class Lines(Iterator[Line]):
-    """The lines that are no texts, in order, each as soon as it was read. `accepted`, `refused` and `blank` count what was read.
+    """The lines that are not valid JSON, in order, each as soon as it was read. `accepted`, `refused` and `blank` count what was read.
 
     A file that was opened by its path is closed behind the last line, by `close`, at the end of a `with`, or once nothing refers to the
     lines.
@@ -147,12 +147,12 @@ class Lines(Iterator[Line]):
 
     @property
     def refused(self) -> int:
-        """How many lines are no texts, or may be cut, of what was read. Blank ones are not counted."""
+        """How many lines are not valid JSON, or may be cut, of what was read. Blank ones are not counted."""
         return self._reader.refused
 
     @property
     def blank(self) -> int:
-        """How many lines have no byte, or blanks alone, of what was read."""
+        """How many lines have no byte, or white space alone, of what was read."""
         return self._reader.blank
 
     def close(self) -> None:
@@ -191,7 +191,7 @@ def lines_file(
 ) -> Lines:
     """The same of a file, by its path or open for reading bytes, or of any chunks of bytes: in constant memory, while they are read.
 
-    Each line is told before more is waited for, as of a pipe or of `sys.stdin.buffer`. A path is opened with the first line. The file's own
+    Each line comes before more is waited for, as of a pipe or of `sys.stdin.buffer`. A path is opened with the first line. The file's own
     faults are raised where they happen, and a `BlockingIOError` where it does not block and has no bytes yet.
     """
     return Lines(chunks_of(file), depth, ignore_bom, skip_blank)

@@ -72,7 +72,7 @@ def save(
     chunks of an object that may have the name. The answers are the same.
 
     The file is a path, or is open for reading bytes and then needs `index`. The index is written beside its place and renamed.
-    Raises `Refused`, without line and column, where the bytes are no text, a `ValueError` where `index` is the file itself, and a
+    Raises `Refused`, without line and column, where the bytes are not valid JSON, a `ValueError` where `index` is the file itself, and a
     `BlockingIOError` where the file does not block and has no bytes yet. A `chunk` has a power of two from 64 to 1,048,576 bytes.
     """
     if index is None:
@@ -139,7 +139,7 @@ def _index_of(chunks: Iterator[Buffer], asked: Any, chunk: int, names: bool) -> 
 
 
 class SavedText:
-    """A text that stays where it is, and its saved index. Chunks that are read are held to their digests."""
+    """A text that stays where it is, and its saved index. Chunks that are read are checked against their checksums."""
 
     def __init__(self, file: Any, index: Any = None):
         self.source: Optional[Tuple[str, str]] = None

@@ -31,9 +31,9 @@ def check(data: Buffer, *, depth: int = DEPTH_DEFAULT, ignore_bom: bool = False,
 
 
 def compact(data: Buffer, *, depth: int = DEPTH_DEFAULT, ignore_bom: bool = False, unique_names: bool = False) -> bytes:
-    """The tokens of a JSON text one behind another, without the blanks between them. Raises `Refused` where `verdict` refuses the text.
+    """The tokens of a JSON text in a row, without the white space between them. Raises `Refused` where `verdict` refuses the text.
 
-    Each token keeps its bytes: no number, name or string is spelt anew. A byte order mark that is ignored is left out. It takes as much
+    Each token keeps its bytes: no number, name or string is written anew. A byte order mark that is ignored is left out. It takes as much
     memory as the data beside the result.
     """
     form = _engine.compact(data, depth, ignore_bom, unique_names)

@@ -59,7 +59,7 @@ class ValueReader:
     def end(self) -> None:
         """Ends the text. No value comes by it.
 
-        Raises `Refused`, without line and column, where the bytes are no text, and a `NotFound` where the pointer leads to no array or
+        Raises `Refused`, without line and column, if the bytes are not valid JSON, and a `NotFound` where the pointer leads to no array or
         object.
         """
         kind, at = self._ended()
@@ -110,8 +110,9 @@ def each(
 ) -> Generator[bytes, None, None]:
     """The elements of the array that a pointer leads to, or the values of the object's members: each compact, as `bytes`.
 
-    Behind the last one it raises `Refused` where the data is no text, and a `NotFound` where the pointer leads to no array or object. A
-    pointer that is none is a `BadPointer` at once. What was given before a fault stays right: it is what each text has that so begins.
+    After the last one it raises `Refused` if the data is not valid JSON, and a `NotFound` if the pointer leads to no array or object. A
+    string that is not a pointer is a `BadPointer` at once. What was given before a fault stays right: it is what each text has that so
+    begins.
     """
     whole = view(data)
     return _given(ValueReader(pointer, depth=depth, ignore_bom=ignore_bom), slices(whole), whole)

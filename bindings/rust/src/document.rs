@@ -56,7 +56,7 @@ impl fmt::Debug for Document {
 /// Why no document was made.
 #[derive(Clone, Copy, Debug, PartialEq, Eq, Hash)]
 pub enum OpenError {
-    /// A growth of memory was refused.
+    /// An allocation failed.
     OutOfMemory,
     /// The settings ask for unique names, and a document keeps no names.
     NoUniqueNames,
@@ -76,7 +76,7 @@ impl Error for OpenError {}
 /// Why a document was not edited, or its bytes not copied. It is as it was.
 #[derive(Clone, Copy, Debug, PartialEq, Eq, Hash)]
 pub enum EditError {
-    /// A growth of memory was refused.
+    /// An allocation failed.
     OutOfMemory,
     /// The range ends before it starts, or behind the last byte.
     OutOfBounds,
@@ -111,7 +111,7 @@ impl Document {
     ///
     /// # Errors
     ///
-    /// [`OpenError`]: a growth of memory was refused, or the settings ask for unique names.
+    /// [`OpenError`]: an allocation failed, or the settings ask for unique names.
     pub fn new(text: &[u8], settings: impl Into<Settings>) -> Result<Document, OpenError> {
         let document = Document {
             raw: UnsafeCell::new(raw::Document::default()),
@@ -139,7 +139,7 @@ impl Document {
     ///
     /// # Errors
     ///
-    /// [`EditError`]: a growth of memory was refused, or the range ends before it starts or behind the last byte. Then the document
+    /// [`EditError`]: an allocation failed, or the range ends before it starts or behind the last byte. Then the document
     /// is as it was.
     ///
     /// ```
@@ -174,7 +174,7 @@ impl Document {
     ///
     /// # Errors
     ///
-    /// [`Fault`]: the bytes are no text by the settings, or a growth of memory was refused.
+    /// [`Fault`]: the bytes are not valid by the settings, or an allocation failed.
     pub fn verdict(&mut self) -> Result<(), Fault> {
         let mut verdict = raw::Verdict {
             offset: 0,
@@ -208,7 +208,7 @@ impl Document {
     ///
     /// # Errors
     ///
-    /// [`EditError`]: a growth of memory was refused, or the range ends before it starts or behind the last byte.
+    /// [`EditError`]: an allocation failed, or the range ends before it starts or behind the last byte.
     pub fn copy(&self, range: impl RangeBounds<usize>) -> Result<Vec<u8>, EditError> {
         let (start, end) = self.bounds(range)?;
         if end < start || self.len() < end {

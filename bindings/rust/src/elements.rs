@@ -10,7 +10,7 @@ use std::ops::Range;
 pub enum ElementVerdict {
     /// It is a text.
     Accepted,
-    /// It is no text. Offsets count from the sequence's start.
+    /// It is not valid JSON. Offsets count from the sequence's start.
     Refused(Refusal),
     /// Its value is a number, `true`, `false` or `null` with nothing behind it, so it may be the beginning of a longer one
     /// that was cut.
@@ -41,7 +41,7 @@ pub struct Element {
     pub verdict: ElementVerdict,
 }
 
-/// A growth of memory was refused.
+/// An allocation failed.
 #[derive(Clone, Copy, Debug, PartialEq, Eq, Hash)]
 pub struct OutOfMemory;
 
@@ -83,7 +83,7 @@ fn fill(
 ///
 /// # Errors
 ///
-/// [`OutOfMemory`]: a growth of memory was refused.
+/// [`OutOfMemory`]: an allocation failed.
 ///
 /// ```
 /// use jx::{elements, ElementVerdict, Refusal};

@@ -5,9 +5,9 @@ use std::fmt;
 /// Why bytes were not accepted by a call that may take memory.
 #[derive(Clone, Copy, Debug, PartialEq, Eq, Hash)]
 pub enum Fault {
-    /// A growth of memory was refused.
+    /// An allocation failed.
     OutOfMemory,
-    /// The bytes are no text.
+    /// The bytes are not valid JSON.
     Refused(Refusal),
 }
 

@@ -92,7 +92,7 @@ pub enum IndexFault {
 /// Why there is no answer by a saved index.
 #[derive(Debug)]
 pub enum FileError {
-    /// A growth of memory was refused.
+    /// An allocation failed.
     OutOfMemory,
     /// The text could not be read.
     Read(io::Error),
@@ -102,7 +102,7 @@ pub enum FileError {
     OtherSize,
     /// The bytes there are not those of the text that was indexed.
     Changed(Range<usize>),
-    /// The pointer is none, or leads to no value.
+    /// The string is not a pointer, or leads to no value.
     Find(FindError),
     /// The span is empty or ends behind the text, or there is no such number of parts.
     OutOfBounds,
@@ -224,7 +224,7 @@ impl<R: ReadAt> File<R> {
     ///
     /// # Errors
     ///
-    /// [`FileError`]: the bytes are no index, or that of a text of another size; the size could not be read, or memory was refused.
+    /// [`FileError`]: the bytes are no index, or that of a text of another size; the size could not be read, or an allocation failed.
     pub fn open(text: R, index: &[u8]) -> Result<File<R>, FileError> {
         let size = text.size().map_err(FileError::Read)?;
         let size = usize::try_from(size).map_err(|_| FileError::OtherSize)?;
@@ -249,7 +249,7 @@ impl<R: ReadAt> File<R> {
     ///
     /// # Errors
     ///
-    /// [`FileError`]: the pointer leads to no value, a chunk is changed or could not be read, or memory was refused.
+    /// [`FileError`]: the pointer leads to no value, a chunk is changed or could not be read, or an allocation failed.
     pub fn find(&mut self, pointer: &str) -> Result<Found, FileError> {
         let mut all = self.find_all(&[pointer])?;
         all.remove(0).map_err(FileError::Find)
@@ -259,7 +259,7 @@ impl<R: ReadAt> File<R> {
     ///
     /// # Errors
     ///
-    /// [`FileError`]: a chunk is changed or could not be read, or memory was refused. What each pointer leads to is told for each.
+    /// [`FileError`]: a chunk is changed or could not be read, or an allocation failed. What each pointer leads to is told for each.
     pub fn find_all(
         &mut self,
         pointers: &[&str],
@@ -298,7 +298,7 @@ impl<R: ReadAt> File<R> {
     ///
     /// # Errors
     ///
-    /// [`FileError`]: a chunk is changed or could not be read, memory was refused, or the span or the count is out of bounds.
+    /// [`FileError`]: a chunk is changed or could not be read, an allocation failed, or the span or the count is out of bounds.
     pub fn split(&mut self, container: Range<usize>, parts: usize) -> Result<Vec<Part>, FileError> {
         let whole = raw::Span {
             start: container.start,
@@ -324,11 +324,11 @@ impl<R: ReadAt> File<R> {
         }))?)
     }
 
-    /// The bytes of a part of the text, as they were indexed: the chunks in which they stand are read, and held to their digests.
+    /// The bytes of a part of the text, as they were indexed: the chunks in which they stand are read, and checked against their checksums.
     ///
     /// # Errors
     ///
-    /// [`FileError`]: a chunk is changed or could not be read, memory was refused, or the span ends behind the text.
+    /// [`FileError`]: a chunk is changed or could not be read, an allocation failed, or the span ends behind the text.
     pub fn read(&mut self, span: Range<usize>) -> Result<Vec<u8>, FileError> {
         if span.start > span.end || span.end > self.about.size {
             return Err(FileError::OutOfBounds);

@@ -30,7 +30,7 @@ impl Found {
 /// Why a pointer (RFC 6901, sections 3 and 4) leads to no value. Tokens are counted from 0.
 #[derive(Clone, Copy, Debug, PartialEq, Eq, Hash)]
 pub enum FindError {
-    /// A growth of memory was refused.
+    /// An allocation failed.
     OutOfMemory,
     /// The object has no member of that name.
     NoSuchMember {
@@ -69,7 +69,7 @@ pub enum FindError {
         /// Its offset in the pointer.
         at: usize,
     },
-    /// The bytes are no text.
+    /// The bytes are not valid JSON.
     Refused(Refusal),
 }
 
@@ -126,7 +126,7 @@ impl Error for FindError {
 ///
 /// # Errors
 ///
-/// [`FindError`]: the bytes are no text, the pointer is none or leads to no value, or a growth of memory was refused.
+/// [`FindError`]: the bytes are not valid JSON, the string is not a pointer or leads to no value, or an allocation failed.
 ///
 /// ```
 /// use jx::{find, FindError};
@@ -163,7 +163,7 @@ pub fn find(text: &[u8], pointer: &str, settings: impl Into<Settings>) -> Result
 ///
 /// # Errors
 ///
-/// [`OutOfMemory`]: a growth of memory was refused. What each pointer leads to is told for each.
+/// [`OutOfMemory`]: an allocation failed. What each pointer leads to is told for each.
 ///
 /// ```
 /// use jx::{find_all, FindError};

@@ -9,7 +9,7 @@ use std::io;
 /// Why a look-up was not begun, or a slice not read.
 #[derive(Clone, Copy, Debug, PartialEq, Eq, Hash)]
 pub enum FeedError {
-    /// A growth of memory was refused. The look-up is lost, and each later call says so again.
+    /// An allocation failed. The look-up is lost, and each later call says so again.
     OutOfMemory,
     /// The settings ask for unique names, and a look-up that is fed keeps no names.
     NoUniqueNames,
@@ -96,7 +96,7 @@ impl Finder {
     ///
     /// # Errors
     ///
-    /// [`FeedError`]: a growth of memory was refused, or the settings ask for unique names.
+    /// [`FeedError`]: an allocation failed, or the settings ask for unique names.
     pub fn new(pointers: &[&str], settings: impl Into<Settings>) -> Result<Finder, FeedError> {
         let mut bytes = Vec::new();
         bytes
@@ -137,7 +137,7 @@ impl Finder {
     ///
     /// # Errors
     ///
-    /// [`FeedError`]: a growth of memory was refused, now or before, or it would have been fed 2^64 bytes or more.
+    /// [`FeedError`]: an allocation failed, now or before, or it would have been fed 2^64 bytes or more.
     pub fn feed(&mut self, bytes: &[u8]) -> Result<(), FeedError> {
         // SAFETY: the pointer and the size are those of one slice, and the look-up is borrowed for the call alone.
         FeedError::of(unsafe {
@@ -149,7 +149,7 @@ impl Finder {
     ///
     /// # Errors
     ///
-    /// [`OutOfMemory`]: a growth of memory was refused, now or before.
+    /// [`OutOfMemory`]: an allocation failed, now or before.
     pub fn end(mut self) -> Result<Vec<Result<Found, FindError>>, OutOfMemory> {
         let mut answers = collected(self.spelt.iter().map(|_| raw::Answer::default()))?;
         // SAFETY: the pointer and the size are those of one vector, and all are borrowed for the call alone.

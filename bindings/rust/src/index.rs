@@ -72,7 +72,7 @@ impl<'a> Index<'a> {
     ///
     /// # Errors
     ///
-    /// [`Fault`]: the bytes are no text by the settings, or a growth of memory was refused.
+    /// [`Fault`]: the bytes are not valid by the settings, or an allocation failed.
     pub fn new(text: &'a [u8], settings: impl Into<Settings>) -> Result<Index<'a>, Fault> {
         let index = Index {
             text,
@@ -101,6 +101,11 @@ impl<'a> Index<'a> {
         Ok(index)
     }
 
+    /// What the library writes to, for a call that may take the index.
+    pub(crate) fn raw(&mut self) -> &mut raw::Index {
+        self.raw.get_mut()
+    }
+
     /// The text.
     pub fn text(&self) -> &'a [u8] {
         self.text
@@ -110,7 +115,7 @@ impl<'a> Index<'a> {
     ///
     /// # Errors
     ///
-    /// [`FindError`]: the pointer is none, or leads to no value.
+    /// [`FindError`]: the string is not a pointer, or leads to no value.
     pub fn find(&self, pointer: &str) -> Result<Value<'a>, FindError> {
         let mut answer = raw::Answer::default();
         // SAFETY: the pointer and the size are those of one slice, and all are borrowed for the call alone. No other call uses

@@ -29,6 +29,7 @@ mod rows;
 mod run;
 mod save;
 mod settings;
+mod shelf;
 mod values;
 
 pub use compact::compact;
@@ -46,6 +47,7 @@ pub use rows::{rows, Kind, Row};
 pub use run::{Run, RunError};
 pub use save::{save, save_with_names, SaveError, CHUNK};
 pub use settings::{NoUniqueNames, Settings};
+pub use shelf::{PutError, Shelf, ShelfReader};
 pub use values::{each, Each, EachError, Values};
 
 /// The depth that the program `jx` takes where none is named.
@@ -56,7 +58,7 @@ pub const DEPTH: u16 = 512;
 ///
 /// # Errors
 ///
-/// [`Fault`]: the bytes are no text by the settings, or a growth of memory was refused.
+/// [`Fault`]: the bytes are not valid by the settings, or an allocation failed.
 ///
 /// ```
 /// use jx::{Refusal, Settings};

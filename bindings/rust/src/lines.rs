@@ -13,12 +13,12 @@ use std::ops::Range;
 pub enum LineVerdict {
     /// It is a text.
     Accepted,
-    /// It is no text. Offsets count from the input's start.
+    /// It is not valid JSON. Offsets count from the input's start.
     Refused(Refusal),
     /// The input ends with it, and its value is a number, `true`, `false` or `null` with nothing behind it. So it may be the
     /// beginning of a longer one that was cut.
     MayBeCut,
-    /// It has no byte, or blanks alone (RFC 8259, section 2).
+    /// It has no byte, or white space alone (RFC 8259, section 2).
     Blank,
 }
 
@@ -83,14 +83,14 @@ pub struct LineCounts {
     pub accepted: usize,
     /// Those that are none, and those that may be cut.
     pub refused: usize,
-    /// Those that have no byte, or blanks alone.
+    /// Those that have no byte, or white space alone.
     pub blank: usize,
 }
 
 /// Why lines were not read.
 #[derive(Clone, Copy, Debug, PartialEq, Eq, Hash)]
 pub enum LineError {
-    /// A growth of memory was refused. What waited is lost, and each later call says so again.
+    /// An allocation failed. What waited is lost, and each later call says so again.
     OutOfMemory,
     /// The settings ask for unique names, and a reader of lines keeps no names.
     NoUniqueNames,
@@ -135,8 +135,8 @@ impl From<LineError> for io::Error {
     }
 }
 
-/// A reader of JSON Lines, whose input comes slice by slice. A line feed ends a line; what stands behind the last one is a line,
-/// too, unless it is empty. Lines that are no texts wait until they are taken. No byte of the input is kept.
+/// A reader of JSON Lines, whose input comes slice by slice. A line feed ends a line; what follows the last one is a line,
+/// too, unless it is empty. Lines that are not valid JSON wait until they are taken. No byte of the input is kept.
 ///
 /// ```
 /// use jx::{LineVerdict, Lines, Refusal};
@@ -183,7 +183,7 @@ impl Lines {
     ///
     /// # Errors
     ///
-    /// [`LineError`]: a growth of memory was refused, or the settings ask for unique names.
+    /// [`LineError`]: an allocation failed, or the settings ask for unique names.
     pub fn new(settings: impl Into<Settings>) -> Result<Lines, LineError> {
         let lines = Lines {
             raw: UnsafeCell::new(raw::Lines::default()),
@@ -198,7 +198,7 @@ impl Lines {
     ///
     /// # Errors
     ///
-    /// [`LineError`]: a growth of memory was refused, now or before, or it would have been fed 2^64 bytes or more.
+    /// [`LineError`]: an allocation failed, now or before, or it would have been fed 2^64 bytes or more.
     pub fn feed(&mut self, bytes: &[u8]) -> Result<(), LineError> {
         // SAFETY: the pointer and the size are those of one slice, and the reader is borrowed for the call alone.
         LineError::of(unsafe {
@@ -206,11 +206,11 @@ impl Lines {
         })
     }
 
-    /// The lines that have ended, are no texts, and were not taken before, in their order.
+    /// The lines that have ended, are not valid JSON, and were not taken before, in their order.
     ///
     /// # Errors
     ///
-    /// [`LineError`]: a growth of memory was refused, now or before. Where it is the room for the lines, they still wait.
+    /// [`LineError`]: an allocation failed, now or before. Where it is the room for the lines, they still wait.
     pub fn take(&mut self) -> Result<Vec<Line>, LineError> {
         let mut room = Vec::new();
         let mut count = 0;
@@ -234,12 +234,12 @@ impl Lines {
         }
     }
 
-    /// What is left to tell if the input ends here: the last line, if no line feed ends it and it is no text, and how many lines
+    /// What is left to tell if the input ends here: the last line, if no line feed ends it and it is not valid JSON, and how many lines
     /// there are, with that one and those that wait. More may be fed.
     ///
     /// # Errors
     ///
-    /// [`LineError::OutOfMemory`]: a growth of memory was refused before.
+    /// [`LineError::OutOfMemory`]: an allocation failed before.
     pub fn end(&self) -> Result<(Option<Line>, LineCounts), LineError> {
         let mut last = raw::Line::default();
         let mut counts = raw::LineCounts::default();
@@ -260,7 +260,7 @@ impl Lines {
 ///
 /// # Errors
 ///
-/// [`LineError`]: a growth of memory was refused, or the settings ask for unique names.
+/// [`LineError`]: an allocation failed, or the settings ask for unique names.
 ///
 /// ```
 /// let (bad, counts) = jx::lines(b"[1]\r\n[1,]\n{}", jx::DEPTH)?;
@@ -310,7 +310,7 @@ impl<R: io::Read> BadLines<R> {
     ///
     /// # Errors
     ///
-    /// [`LineError`]: a growth of memory was refused, or the settings ask for unique names.
+    /// [`LineError`]: an allocation failed, or the settings ask for unique names.
     pub fn new(input: R, settings: impl Into<Settings>) -> Result<BadLines<R>, LineError> {
         let mut buffer = Vec::new();
         buffer
@@ -329,7 +329,7 @@ impl<R: io::Read> BadLines<R> {
     ///
     /// # Errors
     ///
-    /// [`LineError::OutOfMemory`]: a growth of memory was refused before.
+    /// [`LineError::OutOfMemory`]: an allocation failed before.
     pub fn counts(&self) -> Result<LineCounts, LineError> {
         Ok(self.lines.end()?.1)
     }

@@ -52,6 +52,27 @@ impl Default for Index {
     }
 }
 
+/// The pointer is the library's alone; null where it holds no handle of a shelf.
+#[repr(C)]
+pub struct Shelf {
+    pub inside: *mut c_void,
+}
+
+impl Default for Shelf {
+    fn default() -> Shelf {
+        Shelf {
+            inside: ptr::null_mut(),
+        }
+    }
+}
+
+/// The bytes of a text.
+#[repr(C)]
+pub struct Text {
+    pub bytes: *const u8,
+    pub size: usize,
+}
+
 /// The pointer is the library's alone; null where it holds no reader of lines.
 #[repr(C)]
 pub struct Lines {
@@ -227,6 +248,7 @@ pub const OTHER_SIZE: u32 = 26;
 pub const CHANGED: u32 = 27;
 pub const NO_SAVE: u32 = 29;
 pub const NOT_A_CHUNK: u32 = 30;
+pub const TAKEN: u32 = 35;
 
 pub const NO_FROM: u64 = u64::MAX;
 
@@ -290,6 +312,18 @@ extern "C" {
     ) -> u32;
     pub fn jx_index_row_non_null(index: *mut Index, number: usize, row: *mut Row) -> u32;
     pub fn jx_index_free_non_null(index: *mut Index);
+    pub fn jx_shelf_new_non_null(shelf: *mut Shelf) -> u32;
+    pub fn jx_shelf_share_non_null(shelf: *mut Shelf, other: *mut Shelf) -> u32;
+    pub fn jx_shelf_put_non_null(shelf: *mut Shelf, index: *mut Index) -> u32;
+    pub fn jx_shelf_text_non_null(shelf: *mut Shelf, text: *mut Text) -> u32;
+    pub fn jx_shelf_find_non_null(
+        shelf: *mut Shelf,
+        pointer: *const u8,
+        pointer_size: usize,
+        answer: *mut Answer,
+    ) -> u32;
+    pub fn jx_shelf_row_non_null(shelf: *mut Shelf, number: usize, row: *mut Row) -> u32;
+    pub fn jx_shelf_free_non_null(shelf: *mut Shelf);
     pub fn jx_rows_non_null(
         text: *const u8,
         size: usize,

@@ -119,7 +119,7 @@ impl Reader {
     ///
     /// # Errors
     ///
-    /// [`Refusal`]: the bytes are no text by the settings.
+    /// [`Refusal`]: the bytes are not valid by the settings.
     pub fn verdict(&self) -> Result<(), Refusal> {
         let mut verdict = raw::Verdict {
             offset: 0,

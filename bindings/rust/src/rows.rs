@@ -91,7 +91,7 @@ fn fill(text: &[u8], settings: &raw::Settings, buffer: &mut [raw::Row]) -> Resul
 ///
 /// # Errors
 ///
-/// [`Fault`]: the bytes are no text by the settings, or a growth of memory was refused.
+/// [`Fault`]: the bytes are not valid by the settings, or an allocation failed.
 ///
 /// ```
 /// use jx::{rows, Kind};

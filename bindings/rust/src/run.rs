@@ -29,7 +29,7 @@ pub struct Run {
 /// Why there is no run, or no verdict on one.
 #[derive(Clone, Copy, Debug, PartialEq, Eq, Hash)]
 pub enum RunError {
-    /// A growth of memory was refused.
+    /// An allocation failed.
     OutOfMemory,
     /// The bytes are no run that this version of the library writes.
     NotARun,
@@ -119,8 +119,8 @@ impl Run {
     ///
     /// # Errors
     ///
-    /// [`RunError`]: the right run does not begin where this one ends, was made with another depth, or a growth of memory was
-    /// refused.
+    /// [`RunError`]: the right run does not begin where this one ends, was made with another depth, or an allocation
+    /// failed.
     ///
     /// ```
     /// use jx::{Run, RunError};
@@ -149,7 +149,7 @@ impl Run {
     ///
     /// # Errors
     ///
-    /// [`RunError`]: the run is of other bytes than those in the range, or a growth of memory was refused.
+    /// [`RunError`]: the run is of other bytes than those in the range, or an allocation failed.
     pub fn verdict(&self, covered: Range<usize>) -> Result<Result<(), Refusal>, RunError> {
         let mut verdict = raw::Verdict {
             offset: 0,

@@ -15,7 +15,7 @@ const STEP: usize = 64 * 1024;
 /// Why no index of a text is made.
 #[derive(Debug)]
 pub enum SaveError {
-    /// The bytes are no text by the settings, or a growth of memory was refused.
+    /// The bytes are not valid by the settings, or an allocation failed.
     Fault(Fault),
     /// The settings ask for unique names, and a save keeps no names.
     NoUniqueNames,
@@ -76,7 +76,7 @@ impl Drop for Saving {
 ///
 /// # Errors
 ///
-/// [`SaveError`]: what was read is no text, the reader failed, memory was refused, or the settings or the chunk are wrong.
+/// [`SaveError`]: what was read is not valid JSON, the reader failed, an allocation failed, or the settings or the chunk are wrong.
 ///
 /// ```
 /// let index = jx::save(&b"[1, 2]"[..], jx::DEPTH, 64)?;

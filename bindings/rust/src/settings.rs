@@ -27,14 +27,14 @@ pub struct Settings {
 }
 
 impl Default for Settings {
-    /// [`DEPTH`](crate::DEPTH), a mark is refused, and any names are accepted.
+    /// [`DEPTH`](crate::DEPTH), a byte order mark is refused, and any names are accepted.
     fn default() -> Settings {
         Settings::from(crate::DEPTH)
     }
 }
 
 impl From<u16> for Settings {
-    /// This depth, a mark is refused, and any names are accepted.
+    /// This depth, a byte order mark is refused, and any names are accepted.
     fn from(depth: u16) -> Settings {
         Settings {
             depth,

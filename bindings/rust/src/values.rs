@@ -9,7 +9,7 @@ use std::io;
 /// Why values are not given, or why there are no more than were given.
 #[derive(Debug)]
 pub enum EachError {
-    /// A growth of memory was refused. What waited is lost, and each later call says so again.
+    /// An allocation failed. What waited is lost, and each later call says so again.
     OutOfMemory,
     /// The settings ask for unique names, and a stream of values keeps no names.
     NoUniqueNames,
@@ -17,7 +17,7 @@ pub enum EachError {
     TooManyBytes,
     /// The input could not be read.
     Read(io::Error),
-    /// The pointer is none, or leads to no array or object, or the bytes are no text. Where a name of the pointer is repeated, it
+    /// The string is not a pointer, or leads to no array or object, or the bytes are not valid JSON. Where a name of the pointer is repeated, it
     /// led to the value of the first member of that name.
     Find(FindError),
 }
@@ -79,8 +79,8 @@ impl From<EachError> for io::Error {
 /// The elements of an array, or the values of an object's members, in a text that comes slice by slice: each compact, on a line of
 /// its own, as soon as it is due. No byte of the text is kept but those of a value or a name that is not whole yet.
 ///
-/// A pointer (RFC 6901) leads to the array or object, by the first member of each of its names. Compact is a value without the
-/// blanks between its tokens (RFC 8259, section 2); each token keeps its bytes. A value is due once the comma or the bracket behind
+/// A pointer (RFC 6901) leads to the array or object, by the first member of each of its names. Compact is a value without the white
+/// space between its tokens (RFC 8259, section 2); each token keeps its bytes. A value is due once the comma or the bracket behind
 /// it is read, before the text's first fault. What is due stays due, whatever comes behind it.
 ///
 /// ```
@@ -123,7 +123,7 @@ impl Each {
     ///
     /// # Errors
     ///
-    /// [`EachError`]: the pointer is none, a growth of memory was refused, or the settings ask for unique names.
+    /// [`EachError`]: the string is not a pointer, an allocation failed, or the settings ask for unique names.
     pub fn new(pointer: &str, settings: impl Into<Settings>) -> Result<Each, EachError> {
         let mut bytes = Vec::new();
         bytes
@@ -155,7 +155,7 @@ impl Each {
     ///
     /// # Errors
     ///
-    /// [`EachError`]: a growth of memory was refused, now or before, or it would have been fed 2^64 bytes or more.
+    /// [`EachError`]: an allocation failed, now or before, or it would have been fed 2^64 bytes or more.
     pub fn feed(&mut self, bytes: &[u8]) -> Result<(), EachError> {
         // SAFETY: the pointer and the size are those of one slice, and the stream is borrowed for the call alone.
         EachError::of(unsafe {
@@ -167,7 +167,7 @@ impl Each {
     ///
     /// # Errors
     ///
-    /// [`EachError::OutOfMemory`]: a growth of memory was refused, now or before. Where it is the room for them, they still wait.
+    /// [`EachError::OutOfMemory`]: an allocation failed, now or before. Where it is the room for them, they still wait.
     pub fn take(&mut self) -> Result<Vec<u8>, EachError> {
         let mut room = Vec::new();
         let mut size = 0;
@@ -196,7 +196,7 @@ impl Each {
     ///
     /// # Errors
     ///
-    /// [`EachError`]: the bytes are no text, the pointer leads to no array or object, or a growth of memory was refused, now or before.
+    /// [`EachError`]: the bytes are not valid JSON, the pointer leads to no array or object, or an allocation failed, now or before.
     pub fn end(mut self) -> Result<(), EachError> {
         let mut outcome = raw::Outcome::default();
         // SAFETY: both are borrowed for the call alone.
@@ -217,7 +217,7 @@ impl io::Write for Each {
     }
 }
 
-/// Why a pointer is none: that is told before a text is read.
+/// Why a string is not a pointer: that is told before a text is read.
 fn why_none(pointer: &str, settings: Settings) -> FindError {
     find(b"", pointer, settings).expect_err("nothing is no text")
 }
@@ -298,13 +298,13 @@ impl<R: io::Read> Iterator for Values<R> {
 /// The elements of the array that a pointer (RFC 6901) leads to in what is read, or the values of the object's members: each
 /// compact, before more is read than is needed. A slice of bytes is an input too.
 ///
-/// Values come while the text is read, so a fault comes behind them: the last item is an [`EachError`] where the input is no text, a
+/// Values come while the text is read, so a fault comes behind them: the last item is an [`EachError`] where the input is not valid JSON, a
 /// read failed, or the pointer leads to no array or object. [`Each`] tells which values are given then. Behind the first error there
 /// is nothing.
 ///
 /// # Errors
 ///
-/// [`EachError`]: the pointer is none, a growth of memory was refused, or the settings ask for unique names.
+/// [`EachError`]: the string is not a pointer, an allocation failed, or the settings ask for unique names.
 ///
 /// ```
 /// use jx::{each, EachError, FindError, Refusal};

@@ -5,7 +5,7 @@ use crate::fault::Fault;
 use crate::first_pass::{exit_of, is_long_file};
 use crate::input::{fault_of_report, name_of, open};
 use crate::output::{Output, write_out};
-use jx_command::{Color, Input, Inputs, ShowProgress, input_of};
+use jx_command::{Color, Input, Inputs, ShowProgress, TellAccepted, input_of};
 use jx_crew::{Crew, OpenGate};
 use jx_ends::{End, Exit};
 use jx_explain::{Form, Marking, explained, report_explained};
@@ -46,8 +46,30 @@ fn shows_colors(rt: &HostRuntime) -> Result<bool, AllocError> {
     Ok(!is_dumb(rt)?)
 }
 
+/// Whether people are told that an input is accepted.
+fn tells_accepted(inputs: &Inputs<'_>, accepted: TellAccepted) -> bool {
+    match (accepted, inputs) {
+        (TellAccepted::Always, _) => true,
+        (TellAccepted::Several, Inputs::Several(_)) => true,
+        _ => false,
+    }
+}
+
+/// How people are told of inputs.
+pub fn form_for(
+    rt: &HostRuntime,
+    inputs: &Inputs<'_>,
+    color: Color,
+    accepted: TellAccepted,
+) -> Result<Form, AllocError> {
+    Ok(Form::People {
+        marking: marking_for(rt, color)?,
+        tells_accepted: tells_accepted(inputs, accepted),
+    })
+}
+
 /// How what is told to people is marked.
-pub fn marking_for(rt: &HostRuntime, color: Color) -> Result<Marking, AllocError> {
+fn marking_for(rt: &HostRuntime, color: Color) -> Result<Marking, AllocError> {
     let is_colored = match color {
         Color::Auto => shows_colors(rt)?,
         Color::Always => true,
@@ -66,7 +88,7 @@ fn told_name(rt: &HostRuntime, input: Input<'_>, form: Form) -> Result<Vec<u8>, 
     let name = name_of(input);
     match form {
         Form::Object => Ok(Vec::from_slice(alloc, name.as_bytes())?),
-        Form::People(_) | Form::Mark => Ok(shown_name(alloc, name)?),
+        Form::People { .. } | Form::Mark => Ok(shown_name(alloc, name)?),
     }
 }
 

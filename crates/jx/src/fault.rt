@@ -32,6 +32,9 @@ pub enum Fault {
     Memory(#[from(alloc)] AllocError),
     #[error("{0}\n")]
     Report(ReportFault),
+    /// A write of the output failed, and these words tell why.
+    #[error("jx: write failed{0}\n")]
+    Write(&'static str),
     #[error("{0}\n")]
     Parts(PartsFault),
     /// A run is to be written to a terminal.

@@ -1,9 +1,10 @@
 // Inputs, and what is told where one is not to be had.
-ghost use Rattle.std.specs.Prelude.{◌≡◌, ⊤, false, IfOk};
+ghost use Rattle.std.specs.Prelude.{◌≡◌, ⊤, false, IfErr, IfOk};
 
 use crate::fault::Fault;
-use crate::output::Writer;
+use crate::output::{Writer, fault_of_write};
 use crate::progress::{Watch, watch_of};
+use crate::shared_file::{SharedFile, share};
 use jx_command::{Input, ShowProgress, input_of};
 use jx_ends::{End, ReportFault};
 use jx_files::{FileFault, Opener, Reason, tell};
@@ -103,6 +104,37 @@ fn reader_of<'r>(
     }))
 }
 
+/// How many bytes a file has at least that is read at offsets. One thread alone reads as many first, and buffers for that cost a
+/// shorter file more than they gain.
+const LEAST_SHARED: u64 = 1024 * 1024;
+
+/// Whether several threads may gain by reading a regular file.
+fn is_long(origin: &Origin) -> bool {
+    match size_of(origin) {
+        Some(size) => size >= LEAST_SHARED,
+        None => false,
+    }
+}
+
+/// The file that a reader reads from, where it is a regular one, of a MiB at least, and nobody is told how far it was read; else
+/// the reader.
+pub fn file_in<'r>(reader: Reader<'r>) -> Result<File, Reader<'r>>
+    ensures { IfErr result (λ back. back ≡ reader.entry) }
+{
+    if reader.inner.watch.is_some() || !is_long(&reader.inner.origin) {
+        return Err(reader);
+    }
+    let End { inner, failed } = reader;
+    let Opened { origin, why, watch } = inner;
+    match origin {
+        Origin::File(file) => Ok(file),
+        origin => Err(End {
+            inner: Opened { origin, why, watch },
+            failed,
+        }),
+    }
+}
+
 /// What an input is called.
 pub fn name_of<'a>(input: Input<'a>) -> &'a str {
     match input {
@@ -154,8 +186,8 @@ pub fn fault_of_report(
     match fault {
         ReportFault::Read => told_of(rt, input, FileFault::Read(reader.inner.why)),
         ReportFault::Pieces => told_of(rt, input, FileFault::Pieces),
-        ReportFault::Write if writer.inner.is_closed => Fault::Closed,
-        ReportFault::Write | ReportFault::Memory => Fault::Report(fault),
+        ReportFault::Write => fault_of_write(writer),
+        ReportFault::Memory => Fault::Report(fault),
     }
 }
 
@@ -166,11 +198,15 @@ pub struct Desk<'a> {
     pub progress: ShowProgress,
 }
 
-impl<'a> Opener<Reader<'a>> for Desk<'a> {
+impl<'a> Opener<Reader<'a>, SharedFile> for Desk<'a> {
     // Nothing is claimed of what the system gives.
     ghost opens = { λ _ _ _. ⊤ };
 
     ghost why = { λ _ reader. reader.inner.why };
+
+    ghost shares = { λ _ _. ⊤ };
+
+    ghost may_fail = { λ _ _ _. ⊤ };
 
     fn open(&self, word: &str) -> Result<Reader<'a>, FileFault> {
         reader_of(self.rt, input_of(word), self.progress)
@@ -178,5 +214,12 @@ impl<'a> Opener<Reader<'a>> for Desk<'a> {
 
     fn why(&self, input: &Reader<'a>) -> Reason {
         input.inner.why
+    }
+
+    fn share(&self, input: Reader<'a>) -> Result<SharedFile, Reader<'a>> {
+        match share(input) {
+            Ok(file) => Ok(file),
+            Err(reader) => Err(reader),
+        }
     }
 }

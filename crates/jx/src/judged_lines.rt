@@ -2,13 +2,17 @@
 ghost use Rattle.std.specs.Prelude.{◌≡◌, ◌≤◌, false};
 
 use crate::fault::Fault;
-use crate::input::{fault_of_report, open, told_of};
+use crate::input::{fault_of_report, name_of, open, told_of};
+use crate::listing::write_name;
 use crate::output::{Output, Writer};
-use jx_command::{Input, Inputs, LinesOrder, LiveOrder, input_of};
+use jx_command::{Input, Inputs, LinesOrder, LiveOrder, Told, input_of};
 use jx_crew::{Crew, OpenGate, Workers};
 use jx_ends::{End, ReportFault};
+use jx_explain::object_front;
 use jx_files::{FileFault, Status, shown_name};
-use jx_ndjson_report::{BlankRule, ElementsTask, LinesTask, report_lines, report_sequence};
+use jx_ndjson_report::{
+    BlankRule, ElementsTask, LineForm, LinesTask, report_lines, report_sequence,
+};
 use std::sync::Wait;
 use std::thread::Threads;
 
@@ -28,6 +32,41 @@ enum Task {
     Elements(ElementsTask),
 }
 
+/// How it is told.
+fn way_of(asked: &Asked<'_>) -> Told {
+    match asked {
+        Asked::Lines(order) => order.told,
+        Asked::Elements(_) => Told::Lines,
+    }
+}
+
+/// What a line is written as.
+fn form_of(told: Told) -> LineForm {
+    match told {
+        Told::Marks => LineForm::Mark,
+        Told::Objects => LineForm::Object,
+        Told::Lines | Told::Refused | Told::Explained(..) => LineForm::Plain,
+    }
+}
+
+/// What stands in front of each line that is written of an input, which may be told by its name.
+fn front_of(
+    rt: &HostRuntime,
+    told: Told,
+    input: Input<'_>,
+    is_named: bool,
+) -> Result<Vec<u8>, Fault> {
+    let alloc = rt.alloc();
+    let name = name_of(input);
+    let mut front = match told {
+        Told::Objects => return Ok(object_front(alloc, name.as_bytes())?),
+        Told::Lines if !is_named => return Ok(Vec::new(alloc)),
+        _ => shown_name(alloc, name)?,
+    };
+    front.extend_from_slice(if told == Told::Marks { b":" } else { b": " })?;
+    Ok(front)
+}
+
 fn lines_task(order: &LinesOrder<'_>, front: Vec<u8>) -> LinesTask {
     LinesTask {
         settings: order.settings,
@@ -36,6 +75,7 @@ fn lines_task(order: &LinesOrder<'_>, front: Vec<u8>) -> LinesTask {
         } else {
             BlankRule::Refused
         },
+        form: form_of(order.told),
         front,
         is_quiet: order.is_quiet,
     }
@@ -79,6 +119,31 @@ fn tell_input<R: Threads + Wait + Sync>(
     }
 }
 
+/// Writes the name of an input that is refused, where names alone are asked for.
+fn list(rt: &HostRuntime, told: Told, input: Input<'_>, status: Status) -> Result<Status, Fault> {
+    if told == Told::Refused && status == Status::Bad {
+        write_name(rt, input)?;
+    }
+    Ok(status)
+}
+
+/// Whether a fault was told already.
+fn is_told(fault: &Fault) -> bool {
+    match fault {
+        Fault::Told => true,
+        _ => false,
+    }
+}
+
+/// Whether memory was refused.
+fn is_of_memory(fault: &Fault) -> bool {
+    match fault {
+        Fault::Memory(_) => true,
+        Fault::Report(ReportFault::Memory) => true,
+        _ => false,
+    }
+}
+
 /// The status of one of several inputs. Only a fault of the output keeps the others from being read.
 fn status_of(
     rt: &HostRuntime,
@@ -86,15 +151,18 @@ fn status_of(
     told: Result<Status, Fault>,
     is_lost: bool,
 ) -> Result<Status, Fault> {
-    match told {
-        Ok(status) => Ok(status),
-        Err(Fault::Told) if !is_lost => Ok(Status::Fault),
-        Err(Fault::Memory(_) | Fault::Report(ReportFault::Memory)) => {
-            told_of(rt, input, FileFault::Memory);
-            Ok(Status::Fault)
-        }
-        Err(fault) => Err(fault),
+    let fault = match told {
+        Ok(status) => return Ok(status),
+        Err(fault) => fault,
+    };
+    if is_told(&fault) && !is_lost {
+        return Ok(Status::Fault);
     }
+    if is_of_memory(&fault) {
+        told_of(rt, input, FileFault::Memory);
+        return Ok(Status::Fault);
+    }
+    Err(fault)
 }
 
 /// Tells the lines or elements of what a word names, each behind the word as it is shown.
@@ -107,13 +175,30 @@ fn tell_word<R: Threads + Wait + Sync>(
 ) -> Result<Status, Fault>
     requires { 1 ≤ piece }
 {
-    let mut front = shown_name(rt.alloc(), word)?;
-    front.extend_from_slice(b": ")?;
-    let mut writer = End::new(Output::of(rt));
     let input = input_of(word);
-    let task = task_of(asked, front);
+    let way = way_of(asked);
+    let task = task_of(asked, front_of(rt, way, input, true)?);
+    let mut writer = End::new(Output::of(rt));
     let told = tell_input(rt, crew, input, &mut writer, &task, piece);
-    status_of(rt, input, told, writer.failed)
+    let status = status_of(rt, input, told, writer.failed)?;
+    list(rt, way, input, status)
+}
+
+/// Tells the lines or elements of the one input that is read.
+fn tell_one<R: Threads + Wait + Sync>(
+    rt: &HostRuntime,
+    crew: &Crew<'_, R, OpenGate>,
+    asked: &Asked<'_>,
+    input: Input<'_>,
+    piece: usize,
+) -> Result<Status, Fault>
+    requires { 1 ≤ piece }
+{
+    let way = way_of(asked);
+    let task = task_of(asked, front_of(rt, way, input, false)?);
+    let mut writer = End::new(Output::of(rt));
+    let status = tell_input(rt, crew, input, &mut writer, &task, piece)?;
+    list(rt, way, input, status)
 }
 
 /// What is read.
@@ -134,11 +219,7 @@ fn tell_inputs<R: Threads + Wait + Sync>(
     requires { 1 ≤ piece }
 {
     let words = match inputs_of(asked) {
-        Inputs::One(input) => {
-            let task = task_of(asked, Vec::new(rt.alloc()));
-            let mut writer = End::new(Output::of(rt));
-            return tell_input(rt, crew, *input, &mut writer, &task, piece);
-        }
+        Inputs::One(input) => return tell_one(rt, crew, asked, *input, piece),
         Inputs::Several(words) => words,
     };
     let mut status = Status::Good;

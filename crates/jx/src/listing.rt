@@ -13,7 +13,7 @@ use std::sync::Wait;
 use std::thread::Threads;
 
 /// Writes the name of an input that is refused, on a line of its own.
-fn write_name(rt: &HostRuntime, input: Input<'_>) -> Result<(), Fault> {
+pub fn write_name(rt: &HostRuntime, input: Input<'_>) -> Result<(), Fault> {
     let mut line = shown_name(rt.alloc(), name_of(input))?;
     line.push(b'\n')?;
     write_out(rt, &line)

@@ -1,10 +1,10 @@
 // What is told where a look-up by an index has no answer.
 use crate::fault::Fault;
 use crate::input::{Reader, told_of};
-use crate::output::Writer;
+use crate::output::{Writer, fault_of_write};
 use crate::text_file::TextFile;
 use jx_command::Input;
-use jx_ends::{End, ReportFault, write_whole};
+use jx_ends::{End, write_whole};
 use jx_files::{FileFault, shown_name};
 use jx_walk_report::LookFault;
 use std::alloc::AllocError;
@@ -36,8 +36,7 @@ pub fn fault_of_look(
             Ok(told_of(rt, Input::File(index), why))
         }
         LookFault::TextRead => Ok(told_of(rt, Input::File(path), FileFault::Read(text.why))),
-        LookFault::Write if writer.inner.is_closed => Ok(Fault::Closed),
-        LookFault::Write => Ok(Fault::Report(ReportFault::Write)),
+        LookFault::Write => Ok(fault_of_write(writer)),
         LookFault::Memory => Err(AllocError),
         LookFault::Saved(_) | LookFault::NoText => told_of_file(rt, index, fault),
         LookFault::OtherSize { .. } | LookFault::Changed(_) => told_of_file(rt, path, fault),

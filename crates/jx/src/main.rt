@@ -22,23 +22,24 @@ mod places;
 mod progress;
 mod reporting;
 mod saves;
+mod shared_file;
 mod splits;
 mod text_file;
 mod values;
 mod values_by_index;
 
 use elements::write_elements_of;
-use explaining::{explain_inputs, marking_for};
+use explaining::{explain_inputs, form_for};
 use fault::Fault;
 use judged_lines::{tell_elements_of, tell_lines_of};
 use jx_command::{Input, Inputs, Order, Request, Told, command_of};
-use jx_ends::ReportFault;
 use jx_explain::Form;
 use jx_files::Status;
 use jx_task::{Command, Task};
 use lines::add_lines;
 use listing::list_refused;
 use misplaced::refuse_misplaced_in;
+use output::reason_of;
 use parts::work_on_parts;
 use places::write_places;
 use reporting::report_on_inputs;
@@ -95,8 +96,8 @@ fn answer_request<R: Threads + Wait + Sync>(
         Told::Refused => list_refused(rt, threads, &inputs, &command, progress),
         Told::Marks => explain_inputs(rt, threads, &inputs, &command, Form::Mark),
         Told::Objects => explain_inputs(rt, threads, &inputs, &command, Form::Object),
-        Told::Explained(color) => {
-            let form = Form::People(marking_for(rt, color)?);
+        Told::Explained(color, accepted) => {
+            let form = form_for(rt, &inputs, color, accepted)?;
             explain_inputs(rt, threads, &inputs, &command, form)
         }
     }
@@ -131,7 +132,7 @@ fn main(rt: HostRuntime) -> ExitCode {
         Err(version) if version.is_version() => match rt.print(&version) {
             Ok(()) => ExitCode::SUCCESS,
             Err(error) if error.kind() == ErrorKind::BrokenPipe => ExitCode::from(FAULT),
-            Err(_) => end_by(&rt, &Fault::Report(ReportFault::Write)),
+            Err(error) => end_by(&rt, &Fault::Write(reason_of(&error))),
         },
         Err(fault) => end_by(&rt, &fault),
     }

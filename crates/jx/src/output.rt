@@ -1,14 +1,27 @@
 // Standard output.
 use crate::fault::Fault;
-use jx_ends::{End, ReportFault, write_whole};
+use jx_ends::{End, write_whole};
 use std::io;
 use std::io::{Stdout, Write};
 
-/// Standard output, and whether its reader has gone.
+/// Standard output, whether its reader has gone, and the words for why the last write failed, if it failed.
 #[derive(Drop)]
 pub struct Output {
     stdout: Stdout,
     pub is_closed: bool,
+    pub why: &'static str,
+}
+
+/// Why a write failed, as the C library puts it, with a colon and a space in front; nothing where that is not told.
+pub fn reason_of(error: &io::Error) -> &'static str {
+    match error.raw_os_error() {
+        Some(5) => ": Input/output error",
+        Some(9) => ": Bad file descriptor",
+        Some(27) => ": File too large",
+        Some(28) => ": No space left on device",
+        Some(122) => ": Disk quota exceeded",
+        _ => "",
+    }
 }
 
 impl Output {
@@ -17,6 +30,7 @@ impl Output {
         Output {
             stdout: rt.stdout(),
             is_closed: false,
+            why: "",
         }
     }
 }
@@ -26,6 +40,7 @@ impl Write for Output {
         let result = self.stdout.write(buf);
         if let Err(error) = &result {
             self.is_closed = matches!(error.kind(), io::ErrorKind::BrokenPipe);
+            self.why = reason_of(error);
         }
         result
     }
@@ -38,12 +53,20 @@ impl Write for Output {
 /// Where a report writes to.
 pub type Writer = End<Output>;
 
+/// What a fault of the output comes to. Where its reader has gone, there is nothing to tell.
+pub fn fault_of_write(writer: &Writer) -> Fault {
+    if writer.inner.is_closed {
+        Fault::Closed
+    } else {
+        Fault::Write(writer.inner.why)
+    }
+}
+
 /// Writes all of these bytes.
 pub fn write_out(rt: &HostRuntime, bytes: &[u8]) -> Result<(), Fault> {
     let mut writer = End::new(Output::of(rt));
     match write_whole(&mut writer, bytes) {
         Ok(()) => Ok(()),
-        Err(_) if writer.inner.is_closed => Err(Fault::Closed),
-        Err(_) => Err(Fault::Report(ReportFault::Write)),
+        Err(_) => Err(fault_of_write(&writer)),
     }
 }

@@ -1,29 +1,32 @@
 // Reports on inputs.
-ghost use Rattle.std.specs.Prelude.{◌≤◌};
+ghost use Rattle.std.specs.Prelude.{◌≡◌, ◌≤◌, false};
 
 use crate::fault::Fault;
-use crate::input::{Desk, fault_of_report, open_watched};
-use crate::output::Output;
+use crate::input::{Desk, Reader, fault_of_report, open_watched};
+use crate::output::{Output, fault_of_write};
+use crate::shared_file::{report_on_file, share};
 use jx_command::{Input, Inputs, ShowProgress};
 use jx_crew::OpenGate;
 use jx_ends::{End, ReportFault};
 use jx_files::{Status, report_on_each};
+use jx_parallel_report::is_shared;
 use jx_report::report;
 use jx_task::Command;
 use std::sync::Wait;
 use std::thread::Threads;
 
-/// Reports on one input.
-fn report_on<R: Threads + Wait + Sync>(
+/// Reports on one input, as it is read from its start to its end.
+fn report_from<R: Threads + Wait + Sync>(
     rt: &HostRuntime,
     threads: &R,
     input: Input<'_>,
+    reader: Reader<'_>,
     command: &Command,
-    progress: ShowProgress,
 ) -> Result<Status, Fault>
-    requires { 1 ≤ command.now.piece }
+    requires unfailed { reader.failed ≡ false }
+    requires piece { 1 ≤ command.now.piece }
 {
-    let mut reader = open_watched(rt, input, progress)?;
+    let mut reader = reader;
     let mut writer = End::new(Output::of(rt));
     match report(
         threads,
@@ -35,6 +38,26 @@ fn report_on<R: Threads + Wait + Sync>(
     ) {
         Ok(exit) => Ok(Status::of_exit(exit)),
         Err(fault) => Err(fault_of_report(rt, input, &reader, &writer, fault)),
+    }
+}
+
+/// Reports on one input: a regular file is read at offsets where the command shares it among workers.
+fn report_on<R: Threads + Wait + Sync>(
+    rt: &HostRuntime,
+    threads: &R,
+    input: Input<'_>,
+    command: &Command,
+    progress: ShowProgress,
+) -> Result<Status, Fault>
+    requires { 1 ≤ command.now.piece }
+{
+    let reader = open_watched(rt, input, progress)?;
+    if !is_shared(command) {
+        return report_from(rt, threads, input, reader, command);
+    }
+    match share(reader) {
+        Ok(file) => report_on_file(rt, threads, input, &file, command),
+        Err(reader) => report_from(rt, threads, input, reader, command),
     }
 }
 
@@ -60,7 +83,7 @@ fn report_on_words<R: Threads + Wait + Sync>(
         &OpenGate,
     ) {
         Ok(status) => Ok(status),
-        Err(ReportFault::Write) if writer.inner.is_closed => Err(Fault::Closed),
+        Err(ReportFault::Write) => Err(fault_of_write(&writer)),
         Err(fault) => Err(Fault::Report(fault)),
     }
 }

@@ -14,6 +14,7 @@ pub mod Runs
 pub mod Saves
 pub mod Seeks
 pub mod Settings
+pub mod Shelves
 pub mod Stack
 pub mod Values
 pub mod Verdict

@@ -5,14 +5,14 @@ ghost use Rattle.jx_command.specs.Orders.{HasPieces};
 use crate::arg_fault::ArgFault;
 use crate::each_arguments::{EACH, each_order_from};
 use crate::grammar::grammar;
-use crate::inputs::{Input, Inputs, inputs_of, reads_standard_twice};
+use crate::inputs::{Input, Inputs, inputs_of, named_inputs_of, reads_standard_twice};
 use crate::lines_arguments::{LINES, lines_order_from};
 use crate::live_arguments::{is_live, live_order_from};
 use crate::options::{depth_of, progress_of};
 use crate::order::Order;
 use crate::parts_arguments::parts_order_from;
 use crate::parts_command::PartsCommand;
-use crate::request::{Color, Request, Told};
+use crate::request::{Color, Request, TellAccepted, Told};
 use crate::save_arguments::{SAVE, save_order_from};
 use crate::split_arguments::{SPLIT, split_order_from};
 use crate::subcommand::Subcommand;
@@ -134,6 +134,22 @@ fn words_of<'a>(
     }
 }
 
+/// A word that names the file of an option, also where that would name standard input as a word.
+fn word_of_file<'a>(file: &'a str) -> &'a str {
+    if file == "-" { "./-" } else { file }
+}
+
+/// What is read, each behind its name: the file of an option, or what words name.
+fn inputs_behind_names<'a>(
+    options: &ArgMatches<'a>,
+    mut words: Vec<&'a str>,
+) -> Result<Inputs<'a>, AllocError> {
+    if let Some(file) = options.get_str("file") {
+        words.push(word_of_file(file))?;
+    }
+    named_inputs_of(words)
+}
+
 /// What is read: the file of an option, or what words name.
 pub(crate) fn inputs_named<'a>(
     options: &ArgMatches<'a>,
@@ -142,13 +158,16 @@ pub(crate) fn inputs_named<'a>(
     let Ok(words) = words else {
         return Err(ArgFault::Memory);
     };
-    if let Some(file) = options.get_str("file") {
-        return Ok(Inputs::One(Input::File(file)));
-    }
     if reads_standard_twice(&words) {
         return Err(ArgFault::StandardTwice);
     }
-    Ok(inputs_of(words))
+    if options.get_flag("with_filename") {
+        return inputs_behind_names(options, words).map_err(|_| ArgFault::Memory);
+    }
+    match options.get_str("file") {
+        Some(file) => Ok(Inputs::One(Input::File(file))),
+        None => Ok(inputs_of(words)),
+    }
 }
 
 /// The file of pointers that a subcommand is given, if it takes one.
@@ -176,8 +195,19 @@ fn color_of(options: &ArgMatches<'_>) -> Color {
     }
 }
 
-/// How the verdict of a check is told by the options.
-fn format_of(options: &ArgMatches<'_>) -> Told {
+/// Whether people are told by the options that a text is accepted.
+fn accepted_of(options: &ArgMatches<'_>) -> TellAccepted {
+    if options.get_flag("verbose") {
+        TellAccepted::Always
+    } else if options.get_flag("refused") {
+        TellAccepted::Never
+    } else {
+        TellAccepted::Several
+    }
+}
+
+/// How the verdict of a check, or what is wrong with lines, is told by the options.
+pub(crate) fn format_of(options: &ArgMatches<'_>) -> Told {
     if options.get_flag("list") {
         return Told::Refused;
     }
@@ -191,7 +221,7 @@ fn format_of(options: &ArgMatches<'_>) -> Told {
 /// How the answer of a subcommand is told.
 fn told_by(called: Subcommand, options: &ArgMatches<'_>) -> Told {
     match called {
-        Subcommand::Explain => Told::Explained(color_of(options)),
+        Subcommand::Explain => Told::Explained(color_of(options), accepted_of(options)),
         Subcommand::Check => format_of(options),
         Subcommand::Index | Subcommand::At | Subcommand::Seq => Told::Lines,
     }

@@ -22,6 +22,7 @@ const GREATEST_FROM: u64 = 9_223_372_036_854_775_807;
 
 fn file<'a>(alloc: Global) -> Arg<'a> {
     Arg::new(alloc, "file")
+        .short('f')
         .long("file")
         .value_name("FILE")
         .allow_hyphen_values(true)
@@ -37,6 +38,16 @@ fn files<'a>(alloc: Global) -> Result<Arg<'a>, AllocError> {
         .help(help::FILES)
         .long_help(help::LONG_FILES)
         .conflicts_with("file")
+}
+
+/// Whether each answer stands behind the name of its input.
+fn with_filename<'a>(alloc: Global) -> Arg<'a> {
+    Arg::new(alloc, "with_filename")
+        .short('H')
+        .long("with-filename")
+        .action(ArgAction::SetTrue)
+        .help(help::WITH_FILENAME)
+        .long_help(help::LONG_WITH_FILENAME)
 }
 
 /// What is read, as one word.
@@ -59,6 +70,26 @@ fn color<'a>(alloc: Global) -> Arg<'a> {
         .long_help(help::LONG_COLOR)
 }
 
+/// Whether it is told of accepted texts too.
+fn verbose<'a>(alloc: Global) -> Arg<'a> {
+    Arg::new(alloc, "verbose")
+        .short('v')
+        .long("verbose")
+        .action(ArgAction::SetTrue)
+        .help(help::VERBOSE)
+        .long_help(help::LONG_VERBOSE)
+}
+
+/// Whether it is told of refused texts alone.
+fn refused<'a>(alloc: Global) -> Result<Arg<'a>, AllocError> {
+    Arg::new(alloc, "refused")
+        .long("refused")
+        .action(ArgAction::SetTrue)
+        .help(help::REFUSED)
+        .long_help(help::LONG_REFUSED)
+        .conflicts_with("verbose")
+}
+
 fn depth<'a>(alloc: Global) -> Arg<'a> {
     Arg::new(alloc, "depth")
         .long("depth")
@@ -75,24 +106,26 @@ const SHARED_BY: &str = "4";
 /// One worker makes the lines of elements in less processor time, and mostly in less time.
 const EACH_SHARED_BY: &str = "1";
 
-fn workers<'a>(alloc: Global, default: &'a str) -> Arg<'a> {
+/// Among how many workers, and in a text of its own what they share in a command.
+fn workers<'a>(alloc: Global, default: &'a str, shared: &'a str) -> Arg<'a> {
     Arg::new(alloc, "workers")
         .long("workers")
         .value_name("N")
         .value_parser(ValueParser::unsigned(1, 64))
         .default_value(default)
         .help(help::WORKERS)
-        .long_help(help::LONG_WORKERS)
+        .long_help(shared)
 }
 
-fn piece<'a>(alloc: Global) -> Arg<'a> {
+/// How many bytes a piece has, and what pieces are in a command.
+fn piece<'a>(alloc: Global, drawn: &'a str) -> Arg<'a> {
     Arg::new(alloc, "piece")
         .long("piece")
         .value_name("N")
         .value_parser(ValueParser::unsigned(1, 1_073_741_824))
         .default_value("65536")
         .help(help::PIECE)
-        .long_help(help::LONG_PIECE)
+        .long_help(drawn)
 }
 
 fn ignore_bom<'a>(alloc: Global) -> Arg<'a> {
@@ -243,8 +276,10 @@ fn subcommand<'a>(
     called: Subcommand,
     about: &'a str,
     after: &'a str,
+    shared: &'a str,
+    drawn: &'a str,
 ) -> Result<Command<'a>, AllocError> {
-    reading(alloc, called.name(), about, after)
+    reading(alloc, called.name(), about, after, shared, drawn)
 }
 
 /// A subcommand of this name that reads a text or a sequence.
@@ -253,25 +288,35 @@ fn reading<'a>(
     name: &'a str,
     about: &'a str,
     after: &'a str,
+    shared: &'a str,
+    drawn: &'a str,
 ) -> Result<Command<'a>, AllocError> {
     Command::new(alloc, name)
         .about(about)
         .after_long_help(after)
         .arg(file(alloc))?
         .arg(depth(alloc))?
-        .arg(workers(alloc, SHARED_BY))?
-        .arg(piece(alloc))?
+        .arg(workers(alloc, SHARED_BY, shared))?
+        .arg(piece(alloc, drawn))?
         .arg(ignore_bom(alloc))?
         .arg(unique_names(alloc))
 }
 
 fn check<'a>(alloc: Global) -> Result<Command<'a>, AllocError> {
-    subcommand(alloc, Subcommand::Check, help::CHECK, help::AFTER_CHECK)?
-        .arg(quiet(alloc))?
-        .arg(list(alloc)?)?
-        .arg(format(alloc)?)?
-        .arg(progress(alloc))?
-        .arg(files(alloc)?)
+    subcommand(
+        alloc,
+        Subcommand::Check,
+        help::CHECK,
+        help::AFTER_CHECK,
+        help::CHECK_WORKERS,
+        help::CHECK_PIECE,
+    )?
+    .arg(with_filename(alloc))?
+    .arg(quiet(alloc))?
+    .arg(list(alloc)?)?
+    .arg(format(alloc)?)?
+    .arg(progress(alloc))?
+    .arg(files(alloc)?)
 }
 
 fn explain<'a>(alloc: Global) -> Result<Command<'a>, AllocError> {
@@ -280,31 +325,57 @@ fn explain<'a>(alloc: Global) -> Result<Command<'a>, AllocError> {
         Subcommand::Explain,
         help::EXPLAIN,
         help::AFTER_EXPLAIN,
+        help::EXPLAIN_WORKERS,
+        help::EXPLAIN_PIECE,
     )?
     .arg(color(alloc))?
+    .arg(verbose(alloc))?
+    .arg(refused(alloc)?)?
     .arg(files(alloc)?)
 }
 
 fn index<'a>(alloc: Global) -> Result<Command<'a>, AllocError> {
-    subcommand(alloc, Subcommand::Index, help::INDEX, help::AFTER_INDEX)?.arg(one_file(alloc)?)
+    subcommand(
+        alloc,
+        Subcommand::Index,
+        help::INDEX,
+        help::AFTER_INDEX,
+        help::INDEX_WORKERS,
+        help::BOUNDING_PIECE,
+    )?
+    .arg(one_file(alloc)?)
 }
 
 fn at<'a>(alloc: Global) -> Result<Command<'a>, AllocError> {
-    subcommand(alloc, Subcommand::At, help::AT, help::AFTER_AT)?
-        .arg(pointers(alloc)?)?
-        .arg(pointers_file(alloc))?
-        .arg(index_file(alloc)?)
+    subcommand(
+        alloc,
+        Subcommand::At,
+        help::AT,
+        help::AFTER_AT,
+        help::AT_WORKERS,
+        help::BOUNDING_PIECE,
+    )?
+    .arg(pointers(alloc)?)?
+    .arg(pointers_file(alloc))?
+    .arg(index_file(alloc)?)
 }
 
 fn get<'a>(alloc: Global) -> Result<Command<'a>, AllocError> {
-    reading(alloc, GET, help::GET, help::AFTER_GET)?
-        .arg(pointers(alloc)?)?
-        .arg(pointers_file(alloc))?
-        .arg(compact(alloc))?
-        .arg(raw(alloc))?
-        .arg(by_line(alloc)?)?
-        .arg(skip_blank(alloc).requires_arg("by_line")?)?
-        .arg(index_file(alloc)?.conflicts_with("by_line")?)
+    reading(
+        alloc,
+        GET,
+        help::GET,
+        help::AFTER_GET,
+        help::GET_WORKERS,
+        help::BOUNDING_PIECE,
+    )?
+    .arg(pointers(alloc)?)?
+    .arg(pointers_file(alloc))?
+    .arg(compact(alloc))?
+    .arg(raw(alloc))?
+    .arg(by_line(alloc)?)?
+    .arg(skip_blank(alloc).requires_arg("by_line")?)?
+    .arg(index_file(alloc)?.conflicts_with("by_line")?)
 }
 
 fn each<'a>(alloc: Global) -> Result<Command<'a>, AllocError> {
@@ -316,8 +387,8 @@ fn each<'a>(alloc: Global) -> Result<Command<'a>, AllocError> {
         .arg(names(alloc))?
         .arg(file(alloc))?
         .arg(depth(alloc))?
-        .arg(workers(alloc, EACH_SHARED_BY))?
-        .arg(piece(alloc))?
+        .arg(workers(alloc, EACH_SHARED_BY, help::READ_WORKERS))?
+        .arg(piece(alloc, help::EACH_PIECE))?
         .arg(ignore_bom(alloc))?
         .arg(progress(alloc))
 }
@@ -332,10 +403,18 @@ fn live<'a>(alloc: Global) -> Result<Arg<'a>, AllocError> {
 }
 
 fn seq<'a>(alloc: Global) -> Result<Command<'a>, AllocError> {
-    subcommand(alloc, Subcommand::Seq, help::SEQ, help::AFTER_SEQ)?
-        .arg(live(alloc)?)?
-        .arg(quiet(alloc))?
-        .arg(files(alloc)?)
+    subcommand(
+        alloc,
+        Subcommand::Seq,
+        help::SEQ,
+        help::AFTER_SEQ,
+        help::SEQ_WORKERS,
+        help::SEQ_PIECE,
+    )?
+    .arg(live(alloc)?)?
+    .arg(with_filename(alloc))?
+    .arg(quiet(alloc))?
+    .arg(files(alloc)?)
 }
 
 fn skip_blank<'a>(alloc: Global) -> Arg<'a> {
@@ -352,11 +431,14 @@ fn lines<'a>(alloc: Global) -> Result<Command<'a>, AllocError> {
         .after_long_help(help::AFTER_LINES)
         .arg(file(alloc))?
         .arg(depth(alloc))?
-        .arg(workers(alloc, SHARED_BY))?
-        .arg(piece(alloc))?
+        .arg(workers(alloc, SHARED_BY, help::READ_WORKERS))?
+        .arg(piece(alloc, help::LINES_PIECE))?
         .arg(ignore_bom(alloc))?
         .arg(skip_blank(alloc))?
+        .arg(with_filename(alloc))?
         .arg(quiet(alloc))?
+        .arg(list(alloc)?.long_help(help::LONG_LIST_OF_LINES))?
+        .arg(format(alloc)?.long_help(help::LONG_FORMAT_OF_LINES))?
         .arg(files(alloc)?)
 }
 

@@ -25,8 +25,8 @@ pub const LONG_AFTER: &str = "Examples:
   jx seq log.json-seq                 which elements of a sequence are texts?
   jx lines log.jsonl                  which lines are none?
   jx save dump.json > dump.json.jxi   an index of this file, kept beside it
-  jx part --from 0 < part-0 > 0.run   what this part of a text comes to
-  cat *.run | jx whole --to 81920     are all parts together a JSON text?
+  jx part --from 0 < part-00 > 00.run what this part of a text comes to
+  cat ??.run | jx whole --to 81920    are all parts together a JSON text?
 
 Exit status:
   0  the text, every element or line is accepted, every pointer is found
@@ -67,6 +67,24 @@ pub const LONG_FILES: &str = "Read each FILE in order; - is standard input, whic
 no FILE is named. With two or more, the output is that of each behind
 its name, as 'FILE: accepted'. What goes wrong with a FILE is told on
 standard error, and the others are read.";
+
+pub const WITH_FILENAME: &str = "Write the name of its FILE before each line";
+
+pub const LONG_WITH_FILENAME: &str =
+    "Write the name of its FILE and a colon before each line, also where
+there is one FILE; - is standard input. With --format gnu or json a
+line has the name without this option.";
+
+pub const VERBOSE: &str = "Tell of one FILE too that it is accepted";
+
+pub const LONG_VERBOSE: &str =
+    "Tell of one FILE too that it is accepted, as 'FILE: accepted'. Of two
+or more it is told without this option.";
+
+pub const REFUSED: &str = "Tell of the refused files alone";
+
+pub const LONG_REFUSED: &str = "Tell of the refused files alone, and nothing of those that are
+accepted.";
 
 pub const ONE_FILE: &str = "Read FILE; - is standard input";
 
@@ -112,21 +130,60 @@ begins at 0. The runs have to cover all of it.";
 
 pub const WORKERS: &str = "Share the work among N workers, 1 to 64";
 
-pub const LONG_WORKERS: &str = "Share the work among N workers, 1 to 64. The answer is the same for
-every number. Workers share a text of explain from a MiB on, the
-input of check and seq from 5.25 MiB on, and what one read gives of
-each and lines from a MiB on. For at and get they look up many
-pointers: 10000, and one for each 128 bytes of text. One worker
-reads the text for index, at and get, and wherever a text has
---unique-names, and looks up by --index.";
+pub const CHECK_WORKERS: &str = "Share the work among N workers, 1 to 64. The answer is the same for
+every number. Of one FILE each worker reads pieces of 256 KiB for
+itself, and one alone the first MiB. Standard input and pipes they
+share from 5.25 MiB on. One worker reads a text with --unique-names.";
+
+pub const EXPLAIN_WORKERS: &str =
+    "Share the work among N workers, 1 to 64. The answer is the same for
+every number. They share a text from a MiB on. One worker reads a
+text with --unique-names.";
+
+pub const INDEX_WORKERS: &str = "Let there be N workers, 1 to 64. The answer is the same for every
+number: one of them reads the text and makes its index.";
+
+pub const AT_WORKERS: &str = "Share the work among N workers, 1 to 64. The answer is the same for
+every number. They look up many pointers: 10000, and one for each 128
+bytes of text. One worker reads the text, looks up fewer pointers,
+and looks up by --index.";
+
+pub const GET_WORKERS: &str = "Share the work among N workers, 1 to 64. The answer is the same for
+every number. They look up many pointers: 10000, and one for each 128
+bytes of text. One worker reads the text, looks up fewer pointers,
+looks up by --index, and answers with --lines.";
+
+pub const SEQ_WORKERS: &str = "Share the work among N workers, 1 to 64. The answer is the same for
+every number. They share the input from 5.25 MiB on. One worker reads
+with --live.";
+
+pub const READ_WORKERS: &str = "Share the work among N workers, 1 to 64. The answer is the same for
+every number. They share what one read gives, from a MiB on.";
 
 pub const PIECE: &str = "Let a worker draw N bytes at a time";
 
-pub const LONG_PIECE: &str = "Let a worker draw N bytes at a time, 1 to 1073741824; of a sequence
-or of lines, whole ones of some N bytes. The answer is the same for
-every number. Where one worker reads, N only bounds the input:
-4294967295 pieces of N bytes, and more are too many, but for each and
-lines.";
+pub const CHECK_PIECE: &str = "Let a worker draw N bytes at a time, 1 to 1073741824, of standard
+input or a pipe. The answer is the same for every number, and more
+than 4294967295 pieces of N bytes are too many.";
+
+pub const EXPLAIN_PIECE: &str = "Let a worker draw N bytes at a time, 1 to 1073741824. The answer is
+the same for every number, and more than 4294967295 pieces of N bytes
+are too many.";
+
+pub const BOUNDING_PIECE: &str =
+    "Let the input have 4294967295 pieces of N bytes, 1 to 1073741824, and
+no more: these are too many. One worker reads, and N bounds the input
+alone.";
+
+pub const SEQ_PIECE: &str = "Let a worker draw whole elements of some N bytes at a time, 1 to
+1073741824. The answer is the same for every number, and more than
+4294967295 pieces of N bytes are too many.";
+
+pub const EACH_PIECE: &str = "Let a worker draw N bytes at a time, 1 to 1073741824. The answer is
+the same for every number.";
+
+pub const LINES_PIECE: &str = "Let a worker draw whole lines of some N bytes at a time, 1 to
+1073741824. The answer is the same for every number.";
 
 pub const IGNORE_BOM: &str = "Ignore a byte order mark in front";
 
@@ -182,6 +239,10 @@ pub const LIST: &str = "List the refused files alone";
 pub const LONG_LIST: &str = "List the files that are refused, each name on a line, and nothing
 else.";
 
+pub const LONG_LIST_OF_LINES: &str =
+    "List the files that have a line that is no JSON text, each name on a
+line, and nothing else.";
+
 pub const FORMAT: &str = "Answer as plain, gnu or json";
 
 pub const LONG_FORMAT: &str = "Answer as plain, which is as below; as gnu, which is a line for each
@@ -191,6 +252,14 @@ verdict, and where it is refused offset, line, column, sentence and
 pointer, as 'jx explain' tells them. The pointer is null where a name
 on the way stands for no text. With gnu and json the whole of a text
 that is refused is held.";
+
+pub const LONG_FORMAT_OF_LINES: &str =
+    "Answer as plain, which is as below; as gnu, which is for each line
+that is no JSON text FILE:N:COLUMN: VERDICT, and no total; or as
+json, which is an object for each, on a line of its own, with name,
+line, column, start, end, offset and verdict, and one behind them
+with name, accepted and refused. COLUMN counts the bytes of a line
+from 1.";
 
 pub const COMPACT: &str = "Leave out blanks between tokens";
 
@@ -300,8 +369,8 @@ pub const AFTER_EXPLAIN: &str = "Output for a text that is refused:
   open: BRACKETS    that are not closed where the text ends, outermost first
   perhaps: GUESS    what was meant, where that is likely
 Lines end with line feeds and count from 1; columns count the characters of
-a line from 1; K counts bytes from 0. FILE is - for standard input. For a text
-that is accepted:
+a line from 1; K counts bytes from 0. FILE is - for standard input. Of a text
+that is accepted, where there are several, or with --verbose:
   FILE: accepted
 
 Exit status: 0 accepted, 1 refused, 2 no answer; of several files the
@@ -343,9 +412,9 @@ Of a text that is refused, one line as by 'jx check'.
 
 Exit status: 0 all found, 1 refused or not all found, 2 no answer.
 
-The text is read once, batch by batch. Two batches are held, with one worker
-one, and with --unique-names the names of open objects. With 10000 pointers or
-more the whole input is held.
+The text is read once. At most 256 KiB of it are held, and with --unique-names
+the names of open objects. With 10000 pointers or more the whole input is
+held.
 
 With --index the index is held, and of the text a chunk at a time. There is no
 output where the bytes of a chunk that is read have changed, where the text
@@ -454,7 +523,8 @@ greatest.
 
 Examples:
   jx lines log.jsonl
-  tail -f log.jsonl | jx lines
+  jx lines -H --format gnu log.jsonl
+  tail -n +1 -F log.jsonl | jx lines
   jx lines --skip-blank --quiet log.jsonl && echo whole";
 
 pub const AFTER_SAVE: &str =

@@ -1,6 +1,8 @@
 // What the words name that is read.
-ghost use Rattle.std.specs.Prelude.{◌≡◌, count_by, map, nat_lt};
-ghost use Rattle.jx_command.specs.Inputs.{is_dash, AreInputsOf, IsInputOf};
+ghost use Rattle.std.specs.Prelude.{◌≡◌, count_by, map, nat_lt, IfOk};
+ghost use Rattle.jx_command.specs.Inputs.{is_dash, AreInputsOf, AreNamedInputsOf, IsInputOf};
+
+use std::alloc::AllocError;
 
 /// What one word names.
 #[derive(Clone, Copy, Debug, PartialEq, Eq)]
@@ -16,7 +18,8 @@ pub enum Input<'a> {
 pub enum Inputs<'a> {
     /// One input, whose answer stands alone.
     One(Input<'a>),
-    /// The inputs that two words or more name, in their order. The answer for each stands behind its word.
+    /// The inputs that words name, in their order. The answer for each stands behind its word. They are two or more, unless the
+    /// words ask for names.
     Several(Vec<&'a str>),
 }
 
@@ -40,6 +43,16 @@ pub fn inputs_of<'a>(words: Vec<&'a str>) -> Inputs<'a>
         [word] => Inputs::One(input_of(word)),
         _ => Inputs::Several(words),
     }
+}
+
+/// The same, where the answer for each is to stand behind its word, also where it stands alone.
+pub fn named_inputs_of<'a>(mut words: Vec<&'a str>) -> Result<Inputs<'a>, AllocError>
+    ensures { IfOk result (AreNamedInputsOf (map (λ word. word.now) words.entry.items)) }
+{
+    if words.is_empty() {
+        words.push("-")?;
+    }
+    Ok(Inputs::Several(words))
 }
 
 /// Whether more than one of the words is `-`: standard input can be read once.

@@ -2,7 +2,7 @@
 ghost use Rattle.std.specs.Prelude.{◌≤◌, IfOk};
 
 use crate::arg_fault::ArgFault;
-use crate::arguments::{inputs_named, mark_of, piece_of, workers_of};
+use crate::arguments::{format_of, inputs_named, mark_of, piece_of, workers_of};
 use crate::options::depth_of;
 use crate::order::LinesOrder;
 use clap::ArgMatches;
@@ -33,6 +33,7 @@ pub(crate) fn lines_order_from<'a>(
         workers: workers_of(options).unwrap_or(one_worker),
         piece: piece_of(options).unwrap_or(1),
         skips_blanks: options.get_flag("skip_blank"),
-        is_quiet: options.get_flag("quiet"),
+        is_quiet: options.get_flag("quiet") || options.get_flag("list"),
+        told: format_of(options),
     })
 }

@@ -1,7 +1,7 @@
 // What the words of the command line ask for: a report, work on the parts of a text, values, elements, lines, a sequence as it
 // comes, an index that is saved, or the borders of a container's parts.
 use crate::inputs::{Input, Inputs};
-use crate::request::{Request, ShowProgress};
+use crate::request::{Request, ShowProgress, Told};
 use jx_crew::Workers;
 use jx_lex::Depth;
 use jx_run::Settings;
@@ -108,8 +108,10 @@ pub struct LinesOrder<'a> {
     pub piece: usize,
     /// Whether blank lines are passed.
     pub skips_blanks: bool,
-    /// Whether nothing is written.
+    /// Whether nothing is written of a line.
     pub is_quiet: bool,
+    /// How it is told of a line, or of an input that has refused ones.
+    pub told: Told,
 }
 
 /// Elements of text sequences, which are told while they are read.

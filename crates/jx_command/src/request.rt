@@ -30,7 +30,16 @@ pub enum Told {
     /// By a JSON object for each input.
     Objects,
     /// To people: where a fault stands, what it is, and what could stand there instead.
-    Explained(Color),
+    Explained(Color, TellAccepted),
+}
+
+/// Whether people are told that a text is accepted.
+#[derive(Clone, Copy, Debug, PartialEq, Eq)]
+pub enum TellAccepted {
+    /// Where there are several inputs.
+    Several,
+    Always,
+    Never,
 }
 
 /// Whether what is told to people has colors.

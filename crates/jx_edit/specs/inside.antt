@@ -4,6 +4,7 @@ pub mod Fronts
 pub mod Leads
 pub mod Links
 pub mod Moves
+pub mod Nearing
 pub mod Parts
 pub mod Passing
 pub mod Pieces

@@ -3,11 +3,21 @@ use jx_sentence::{columns, first_columns, last_columns, push_shown};
 use memchr::{memchr, memrchr};
 use std::alloc::AllocError;
 
-/// How many columns are shown on each side of a place.
-const SIDE: usize = 39;
+/// How many columns are shown on each side of a place. With dots at both ends a line has less than 80.
+const SIDE: usize = 37;
 
 /// How many bytes are looked at on each side: a character that is shown takes at most four.
 const SIDE_BYTES: usize = 4 * SIDE + 4;
+
+/// What stands at an end of a line that is cut there.
+const CUT: &str = "..";
+
+/// The part of a line on one side of a place as it is shown, and whether the line has more there.
+#[derive(Clone, Copy)]
+struct Side<'a> {
+    shown: &'a [u8],
+    is_cut: bool,
+}
 
 /// Whether a byte goes on with a character that an earlier one began.
 fn is_tail(byte: u8) -> bool {
@@ -23,30 +33,43 @@ fn from_character(bytes: &[u8]) -> &[u8] {
 }
 
 /// What stands in the line of a place before it, as far as it is shown.
-fn before(text: &[u8], at: usize) -> &[u8] {
+fn before(text: &[u8], at: usize) -> Side<'_> {
     let all = text.get(..at).unwrap_or(text);
     let near = all
         .get(all.len().saturating_sub(SIDE_BYTES)..)
         .unwrap_or(all);
-    let line = match memrchr(b'\n', near) {
-        Some(feed) => near.get(feed + 1..).unwrap_or(&[]),
-        None if near.len() < all.len() => from_character(near),
-        None => near,
+    let (line, is_far) = match memrchr(b'\n', near) {
+        Some(feed) => (near.get(feed + 1..).unwrap_or(&[]), false),
+        None if near.len() < all.len() => (from_character(near), true),
+        None => (near, false),
     };
-    last_columns(line, SIDE)
+    let shown = last_columns(line, SIDE);
+    Side {
+        shown,
+        is_cut: is_far || shown.len() < line.len(),
+    }
 }
 
 /// What stands in the line of a place from it on, as far as it is shown. A carriage return before the line feed is left
 /// out.
-fn behind(text: &[u8], at: usize) -> &[u8] {
+fn behind(text: &[u8], at: usize) -> Side<'_> {
     let all = text.get(at..).unwrap_or(&[]);
     let near = all.get(..SIDE_BYTES).unwrap_or(all);
-    let line = match memchr(b'\n', near) {
-        Some(feed) => near.get(..feed).unwrap_or(near),
-        None => near,
+    let (line, is_far) = match memchr(b'\n', near) {
+        Some(feed) => (near.get(..feed).unwrap_or(near), false),
+        None => (near, near.len() < all.len()),
     };
-    let shown = line.strip_suffix(b"\r").unwrap_or(line);
-    first_columns(shown, SIDE + 1)
+    let whole = line.strip_suffix(b"\r").unwrap_or(line);
+    let shown = first_columns(whole, SIDE + 1);
+    Side {
+        shown,
+        is_cut: is_far || shown.len() < whole.len(),
+    }
+}
+
+/// What stands at an end of a line.
+fn dots(is_cut: bool) -> &'static str {
+    if is_cut { CUT } else { "" }
 }
 
 /// Appends the text of a place's line around it, and in a line below it a caret below the place.
@@ -57,10 +80,14 @@ pub fn push_excerpt(
     caret: &str,
 ) -> Result<(), AllocError> {
     let front = before(text, at);
-    push_shown(out, front)?;
-    push_shown(out, behind(text, at))?;
+    let back = behind(text, at);
+    out.push_str(dots(front.is_cut))?;
+    push_shown(out, front.shown)?;
+    push_shown(out, back.shown)?;
+    out.push_str(dots(back.is_cut))?;
     out.push('\n')?;
-    for _ in 0..columns(front) {
+    let width = columns(front.shown).saturating_add(dots(front.is_cut).len());
+    for _ in 0..width {
         out.push(' ')?;
     }
     out.push_str(caret)?;

@@ -47,8 +47,12 @@ impl Marking {
 /// How what is told of a text is spelt.
 #[derive(Clone, Copy, Debug, PartialEq, Eq)]
 pub enum Form {
-    /// For people: of a text that is refused the place, a sentence, the line and a caret, and notes.
-    People(Marking),
+    /// For people: of a text that is refused the place, a sentence, the line and a caret, and notes. Of one that is accepted that, if
+    /// it is told.
+    People {
+        marking: Marking,
+        tells_accepted: bool,
+    },
     /// As compilers tell of faults: of a text that is refused the place and a sentence, in one line, and of any other nothing.
     Mark,
     /// As a JSON object in one line.
@@ -102,11 +106,14 @@ fn refused(
 fn accepted(alloc: Global, name: &[u8], form: Form) -> Result<String, AllocError> {
     let mut out = String::new(alloc);
     match form {
-        Form::People(_) => {
+        Form::People {
+            tells_accepted: true,
+            ..
+        } => {
             push_shown(&mut out, name)?;
             out.push_str(": accepted\n")?;
         }
-        Form::Mark => (),
+        Form::People { .. } | Form::Mark => (),
         Form::Object => push_accepted_object(&mut out, name)?,
     }
     Ok(out)
@@ -144,7 +151,7 @@ pub fn explained(
 ) -> Result<String, AllocError> {
     match (verdict, form) {
         (Verdict::Accepted, _) => accepted(alloc, name, form),
-        (Verdict::Refused(refusal), Form::People(marking)) => {
+        (Verdict::Refused(refusal), Form::People { marking, .. }) => {
             refused(alloc, name, text, refusal, settings, marking)
         }
         (Verdict::Refused(refusal), Form::Mark) => {

@@ -2,6 +2,30 @@
 use jx_lex::LexState;
 use jx_reduce::{Expect, Holder};
 use jx_sentence::Standing;
+use memchr::memrchr;
+
+/// What a text begins with that is none, and what is told of it.
+const FRONTS: [(&[u8], &str); 5] = [
+    (
+        b"\xEF\xBB\xBF",
+        "a byte order mark, which --ignore-bom ignores",
+    ),
+    (b"\xFF\xFE", "UTF-16, where JSON has UTF-8"),
+    (b"\xFE\xFF", "UTF-16, where JSON has UTF-8"),
+    (b"\x1F\x8B", "what gzip has packed"),
+    (b"\x28\xB5\x2F\xFD", "what zstd has packed"),
+];
+
+/// Quotation marks of letters: each is a character of three bytes.
+const CURLY: [&[u8]; 4] = [
+    b"\xE2\x80\x98",
+    b"\xE2\x80\x99",
+    b"\xE2\x80\x9C",
+    b"\xE2\x80\x9D",
+];
+
+/// The literals of JSON.
+const LITERALS: [&[u8]; 3] = [b"true", b"false", b"null"];
 
 /// A word that stands for a value elsewhere, and what is told of it.
 const WORDS: [(&[u8], &str); 14] = [
@@ -38,6 +62,27 @@ fn hint_of_word(bytes: &[u8]) -> Option<&'static str> {
     found
 }
 
+/// What a text is that stopped at its first two bytes.
+fn hint_of_front(text: &[u8]) -> Option<&'static str> {
+    match (text.first(), text.get(1)) {
+        (Some(0), Some(1..)) | (Some(1..), Some(0)) => Some("UTF-16, where JSON has UTF-8"),
+        _ => {
+            let found = FRONTS.iter().find(|front| text.starts_with(front.0));
+            found.map(|front| front.1)
+        }
+    }
+}
+
+/// Whether the bytes begin with one of these.
+fn begins_with_one(bytes: &[u8], fronts: &[&[u8]]) -> bool {
+    fronts.iter().any(|front| bytes.starts_with(*front))
+}
+
+/// Whether the bytes begin with a literal.
+fn begins_with_literal(bytes: &[u8]) -> bool {
+    LITERALS.iter().any(|word| begins_with_word(bytes, *word))
+}
+
 /// Whether a value may stand next.
 fn wants_value(expect: Expect) -> bool {
     matches!(expect, Expect::Value | Expect::ArrayFirst)
@@ -57,19 +102,42 @@ fn is_behind_comma(standing: &Standing) -> bool {
     }
 }
 
+/// Whether nothing but blanks stands before an offset in its line, and a line before that.
+fn begins_line(text: &[u8], at: usize) -> bool {
+    let before = text.get(..at).unwrap_or(text);
+    match memrchr(b'\n', before) {
+        Some(feed) => {
+            let line = before.get(feed + 1..).unwrap_or(&[]);
+            line.iter().all(|byte| matches!(byte, b' ' | b'\t' | b'\r'))
+        }
+        None => false,
+    }
+}
+
 /// What the first byte of a value or a name is behind a value, where it may not stand.
-fn hint_behind_value(standing: &Standing) -> Option<&'static str> {
+fn hint_behind_value(text: &[u8], at: usize, standing: &Standing) -> Option<&'static str> {
     if standing.expect != Expect::After {
         return None;
     }
     match standing.top {
-        Holder::Bottom => Some("a second text: in JSON Lines each line is one"),
+        Holder::Bottom if begins_line(text, at) => {
+            Some("a second text: in JSON Lines each line is one")
+        }
+        Holder::Bottom => Some("a second text right behind the first"),
         Holder::Array | Holder::Object => Some("a comma is missing"),
     }
 }
 
-/// What a byte between tokens probably is.
-fn hint_between(standing: &Standing, byte: u8) -> Option<&'static str> {
+/// Whether bytes stand right behind a string in a container, and begin no value or name.
+fn is_behind_string(text: &[u8], rest: &[u8], standing: &Standing) -> bool {
+    let is_behind = matches!(standing.expect, Expect::After | Expect::Colon)
+        && standing.top != Holder::Bottom
+        && text.get(standing.token) == Some(&b'"');
+    is_behind && !begins_with_literal(rest)
+}
+
+/// What a byte between tokens probably is, where it is no letter behind a string.
+fn hint_between(text: &[u8], at: usize, standing: &Standing, byte: u8) -> Option<&'static str> {
     let expect = standing.expect;
     match byte {
         b'/' | b'#' => Some("a comment, which JSON has not"),
@@ -80,25 +148,42 @@ fn hint_between(standing: &Standing, byte: u8) -> Option<&'static str> {
         b'A'..=b'Z' | b'a'..=b'z' | b'_' | b'$' if wants_name(expect) => {
             Some("a name without quotation marks")
         }
-        b'{' | b'[' | b'"' | b'-' | b'0'..=b'9' | b't' | b'f' | b'n' => hint_behind_value(standing),
+        b'{' | b'[' | b'"' | b'-' | b'0'..=b'9' | b't' | b'f' | b'n' => {
+            hint_behind_value(text, at, standing)
+        }
         _ => None,
     }
 }
 
 /// What stands between tokens at an offset probably is.
-fn hint_in_gap(rest: &[u8], standing: &Standing) -> Option<&'static str> {
+fn hint_in_gap(text: &[u8], at: usize, standing: &Standing) -> Option<&'static str> {
+    let rest = text.get(at..).unwrap_or(&[]);
     let byte = *rest.first()?;
+    let expect = standing.expect;
     match hint_of_word(rest) {
-        Some(hint) if wants_value(standing.expect) => Some(hint),
-        _ => hint_between(standing, byte),
+        Some(hint) if wants_value(expect) => Some(hint),
+        _ if begins_with_one(rest, &CURLY) && (wants_value(expect) || wants_name(expect)) => {
+            Some("quotation marks of letters, where JSON has \"")
+        }
+        _ if byte.is_ascii_alphabetic() && is_behind_string(text, rest, standing) => {
+            Some("a quotation mark is missing, or one is not escaped")
+        }
+        _ => hint_between(text, at, standing, byte),
     }
 }
 
 /// What stands at an offset probably is, by where the reading stands there.
 pub fn hint_at(text: &[u8], at: usize, standing: &Standing) -> Option<&'static str> {
     let rest = text.get(at..).unwrap_or(&[]);
+    let front = if at < 2 { hint_of_front(text) } else { None };
+    if front.is_some() {
+        return front;
+    }
     match standing.state {
-        LexState::Gap => hint_in_gap(rest, standing),
+        LexState::Gap => hint_in_gap(text, at, standing),
+        LexState::Str if matches!(rest.first(), Some(b'\n' | b'\r')) => {
+            Some("a string without its closing quotation mark")
+        }
         LexState::Zero if matches!(rest.first(), Some(b'x' | b'X')) => {
             Some("a hexadecimal number, which JSON has not")
         }

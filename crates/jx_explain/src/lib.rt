@@ -13,4 +13,5 @@ mod way;
 
 pub use explain::{Form, Marking, explained};
 pub use first_pass::exit_of_input;
+pub use object::object_front;
 pub use reporting::report_explained;

@@ -2,7 +2,7 @@
 use bstr::ByteSlice;
 use jx_run::Refusal;
 use jx_sentence::Place;
-use std::alloc::AllocError;
+use std::alloc::{AllocError, Global};
 use std::fmt::Write;
 
 /// Appends a character as it stands in a string (RFC 8259, section 7).
@@ -27,11 +27,24 @@ fn push_string(out: &mut String, bytes: &[u8]) -> Result<(), AllocError> {
     out.push('"')
 }
 
-/// Appends the beginning of an object, up to the verdict.
-pub fn push_front(out: &mut String, name: &[u8], verdict: &str) -> Result<(), AllocError> {
+/// Appends the beginning of an object, up to what stands behind the name.
+fn push_name(out: &mut String, name: &[u8]) -> Result<(), AllocError> {
     out.push_str("{\"name\":")?;
     push_string(out, name)?;
-    out.push_str(",\"verdict\":\"")?;
+    out.push(',')
+}
+
+/// The beginning of an object of an input of this name, up to what stands behind the name.
+pub fn object_front(alloc: Global, name: &[u8]) -> Result<Vec<u8>, AllocError> {
+    let mut front = String::new(alloc);
+    push_name(&mut front, name)?;
+    Vec::from_slice(alloc, front.as_bytes())
+}
+
+/// Appends the beginning of an object, up to the verdict.
+pub fn push_front(out: &mut String, name: &[u8], verdict: &str) -> Result<(), AllocError> {
+    push_name(out, name)?;
+    out.push_str("\"verdict\":\"")?;
     out.push_str(verdict)?;
     out.push('"')
 }

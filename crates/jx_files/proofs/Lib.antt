@@ -1,3 +1,4 @@
+pub mod Answered
 pub mod NamedLines
 pub mod Shown
 pub mod Words

@@ -7,6 +7,8 @@ use Rattle.jx_ends.specs.Ends.{ReadsToEnd, AppendsBeginning}
 use Rattle.jx_report.specs.Output.{Output}
 use Rattle.jx_words.specs.Verdicts.{shown_output}
 use Rattle.jx_report.specs.Reports.{HasTooManyPieces, greatest_length}
+use Rattle.jx_parallel.specs.Offsets.{IsContent}
+use Rattle.jx_parallel_report.specs.ReportsAt.{IsShared}
 use Rattle.jx_files.specs.declared.file_fault.FileFault.{FileFault}
 use Rattle.jx_files.specs.declared.file_fault.FileFault.TheVariants.{Read, Memory, Pieces}
 use Rattle.jx_files.specs.declared.reason.Reason.{Reason}
@@ -27,30 +29,45 @@ pub record Ways : Type 1 where
   pub opens : List ℕ → Result Input FileFault → Type 0
   -- why the last read of an input failed
   pub why : Input → Reason
+  -- an input may be shared for reads at offsets
+  pub shares : Input → Type 0
+  -- a read of an input at an offset may fail for this reason
+  pub may_fail : Input → Reason → Type 0
   -- the bytes that an input has left
   pub remaining : Input → Option (List ℕ)
   -- a read of it has failed
   pub has_failed : Input → Bool
 
-abbrev pub ways_of : {Input : Type 0} → (List ℕ → Result Input FileFault → Type 0) → (Input → Reason) → (Input → Option (List ℕ)) → (Input → Bool) → Ways
-ways_of {Input} opens why remaining has_failed = record { Input = Input; opens = opens; why = why; remaining = remaining; has_failed = has_failed }
+abbrev pub ways_of : {Input : Type 0} → (List ℕ → Result Input FileFault → Type 0) → (Input → Reason) → (Input → Type 0) → (Input → Reason → Type 0) → (Input → Option (List ℕ)) → (Input → Bool) → Ways
+ways_of {Input} opens why shares may_fail remaining has_failed = record { Input = Input; opens = opens; why = why; shares = shares; may_fail = may_fail; remaining = remaining; has_failed = has_failed }
+
+-- an input may be read at offsets by several threads for a command
+abbrev pub MayBeShared : (ways : Ways) → Command → ways.Input → Type 0
+MayBeShared ways command input = ways.shares input × IsShared command
+
+-- why there is no answer for what was opened
+pub data IsFaultOf (ways : Ways) (command : Command) (input : ways.Input) : FileFault → Type 0 where
+  not_read : (left : ways.Input) → ways.has_failed left ≡ true → IsFaultOf ways command input (Read (ways.why left))
+  not_read_there : (reason : Reason) → MayBeShared ways command input → ways.may_fail input reason → IsFaultOf ways command input (Read reason)
+  too_long : (left : ways.Input) → HasTooManyPieces command (ways.remaining input) (ways.remaining left) → IsFaultOf ways command input Pieces
+  no_memory : IsFaultOf ways command input Memory
 
 -- why there is no answer for a word. Want of memory is told of none that names nothing to be read
 pub data IsFaultAt (ways : Ways) (command : Command) (word : List ℕ) : FileFault → Type 0 where
   not_opened : (fault : FileFault) → ways.opens word (Err fault) → IsFaultAt ways command word fault
-  not_read : (input left : ways.Input) → ways.opens word (Ok input) → ways.has_failed left ≡ true → IsFaultAt ways command word (Read (ways.why left))
-  too_long : (input left : ways.Input) → ways.opens word (Ok input) → HasTooManyPieces command (ways.remaining input) (ways.remaining left) → IsFaultAt ways command word Pieces
-  no_memory : (input : ways.Input) → ways.opens word (Ok input) → IsFaultAt ways command word Memory
+  not_answered : (fault : FileFault) (input : ways.Input) → ways.opens word (Ok input) → IsFaultOf ways command input fault → IsFaultAt ways command word fault
 
--- all that the input of a word had was read, and this is the output for it, and how its report ends
+-- this is the output for all that an input had, and how its report ends. It was read to its end, or at offsets where it may be shared
+pub data IsAnsweredOf (ways : Ways) (command : Command) (input : ways.Input) (output : List ℕ) (exit : Exit) : Type 0 where
+  by_reading : (left : ways.Input) (text : List ℕ) → ReadsToEnd (ways.remaining input) (ways.remaining left) text → length text ≤ greatest_length command.piece
+      → Output command.task command.settings text output exit → IsAnsweredOf ways command input output exit
+  by_offsets : (text : List ℕ) → MayBeShared ways command input → IsContent (ways.remaining input) text → Output command.task command.settings text output exit → IsAnsweredOf ways command input output exit
+
+-- the same for the input of a word
 pub record IsAnsweredAt (ways : Ways) (command : Command) (word : List ℕ) (output : List ℕ) (exit : Exit) : Type 0 where
   pub input : ways.Input
-  pub left : ways.Input
-  pub text : List ℕ
   pub opened : ways.opens word (Ok input)
-  pub read : ReadsToEnd (ways.remaining input) (ways.remaining left) text
-  pub few : length text ≤ greatest_length command.piece
-  pub answer : Output command.task command.settings text output exit
+  pub answered : IsAnsweredOf ways command input output exit
 
 -- what is written for one word, what is told of it, and its status
 pub data IsReportedAt (ways : Ways) (command : Command) (word : List ℕ) : List ℕ → List ℕ → Status → Type 0 where

@@ -1,14 +1,18 @@
 ghost use Rattle.std.specs.Prelude.{◌≡◌, ◌<◌, ◌≤◌, true, false, length, map, slice_get, is_err, IfOk, IfErr, OnErr};
-ghost use Rattle.jx_files.specs.Files.{ways_of, IsFaultAt, ReportsEach, ReportsFirst};
-ghost use Rattle.jx_files.specs.inside.Parts.{IsAnsweredBy, IsPartOf, ReportsOne, ReportsPart};
+ghost use Rattle.jx_files.specs.Files.{ways_of, IsFaultAt, IsFaultOf, ReportsEach, ReportsFirst};
+ghost use Rattle.jx_files.specs.inside.Parts.{IsAnsweredBy, IsAnsweredFrom, IsAnsweredThere, IsFaultThere, IsPartOf, ReportsOne, ReportsPart};
+ghost use Rattle.jx_parallel_report.specs.ReportsAt.{IsShared};
 
 use crate::file_fault::FileFault;
 use crate::naming::named_lines;
 use crate::opener::Opener;
+use crate::reason::Reason;
 use crate::status::Status;
 use crate::telling::tell;
 use jx_crew::Gate;
 use jx_ends::{End, Exit, ReportFault, Sink, Source, write_whole};
+use jx_parallel::SharedAt;
+use jx_parallel_report::{ReportAtFault, is_shared, report_at};
 use jx_report::report;
 use jx_task::Command;
 use std::alloc::Global;
@@ -29,23 +33,51 @@ struct Part {
     status: Status,
 }
 
-/// Opens what a word names, and reports on it into memory.
-fn answer_on<R: Threads + Wait + Sync, S: Source + Send + Drop, O: Opener<S>, G: Gate + Sync>(
+/// Reports into memory on what several threads read at offsets.
+fn answer_at<R: Threads + Wait + Sync, F: SharedAt<Fault = Reason> + Sync>(
+    rt: &R,
+    alloc: Global,
+    shared: &F,
+    command: &Command,
+) -> Result<Answer, FileFault>
+    requires piece { 1 ≤ command.now.piece }
+    requires shared { IsShared command.now }
+    ensures ok { IfOk result (IsAnsweredThere command.now (F.content shared.now)) }
+    ensures err { IfErr result (IsFaultThere (F.may_fail shared.now)) }
+{
+    let mut lines = End::new(Vec::new(alloc));
+    match report_at(rt, alloc, shared, &mut lines, command) {
+        Ok(exit) => Ok(Answer {
+            exit,
+            lines: lines.inner,
+        }),
+        Err(ReportAtFault::Read(reason)) => Err(FileFault::Read(reason)),
+        // Nothing but want of memory keeps lines from being written there.
+        Err(ReportAtFault::Memory | ReportAtFault::Write) => Err(FileFault::Memory),
+    }
+}
+
+/// Reports into memory on what an input gives, as it is read from its start to its end.
+fn answer_from<
+    R: Threads + Wait + Sync,
+    S: Source + Send + Drop,
+    F: SharedAt<Fault = Reason>,
+    O: Opener<S, F>,
+    G: Gate + Sync,
+>(
     rt: &R,
     alloc: Global,
     opener: &O,
-    word: &str,
+    input: S,
     command: &Command,
     gate: &G,
 ) -> Result<Answer, FileFault>
-    requires { 1 ≤ command.now.piece }
-    ensures ok { IfOk result (λ answer. IsAnsweredBy (ways_of (O.opens opener.now) (O.why opener.now) S.remaining S.has_failed) command.now word.now answer) }
-    ensures err { IfErr result (λ fault. IsFaultAt (ways_of (O.opens opener.now) (O.why opener.now) S.remaining S.has_failed) command.now word.now fault) }
+    requires unfailed { S.has_failed input ≡ false }
+    requires piece { 1 ≤ command.now.piece }
+    ensures ok { IfOk result (IsAnsweredFrom (ways_of (O.opens opener.now) (O.why opener.now) (O.shares opener.now) (O.may_fail opener.now) S.remaining S.has_failed) command.now input) }
+    ensures err { IfErr result (IsFaultOf (ways_of (O.opens opener.now) (O.why opener.now) (O.shares opener.now) (O.may_fail opener.now) S.remaining S.has_failed) command.now input) }
 {
-    let mut input = match opener.open(word) {
-        Ok(input) => input,
-        Err(fault) => return Err(fault),
-    };
+    let mut input = input;
     let mut lines = End::new(Vec::new(alloc));
     match report(rt, alloc, &mut input, &mut lines, command, gate) {
         Ok(exit) => Ok(Answer {
@@ -59,8 +91,69 @@ fn answer_on<R: Threads + Wait + Sync, S: Source + Send + Drop, O: Opener<S>, G:
     }
 }
 
+/// Reports into memory on an input: by several threads at offsets, where it has offsets and the command is one that shares
+/// them.
+fn answer_to<
+    R: Threads + Wait + Sync,
+    S: Source + Send + Drop,
+    F: SharedAt<Fault = Reason> + Sync + Drop,
+    O: Opener<S, F>,
+    G: Gate + Sync,
+>(
+    rt: &R,
+    alloc: Global,
+    opener: &O,
+    input: S,
+    command: &Command,
+    gate: &G,
+) -> Result<Answer, FileFault>
+    requires unfailed { S.has_failed input ≡ false }
+    requires piece { 1 ≤ command.now.piece }
+    ensures ok { IfOk result (IsAnsweredFrom (ways_of (O.opens opener.now) (O.why opener.now) (O.shares opener.now) (O.may_fail opener.now) S.remaining S.has_failed) command.now input) }
+    ensures err { IfErr result (IsFaultOf (ways_of (O.opens opener.now) (O.why opener.now) (O.shares opener.now) (O.may_fail opener.now) S.remaining S.has_failed) command.now input) }
+{
+    if !is_shared(command) {
+        return answer_from(rt, alloc, opener, input, command, gate);
+    }
+    match opener.share(input) {
+        Ok(shared) => answer_at(rt, alloc, &shared, command),
+        Err(input) => answer_from(rt, alloc, opener, input, command, gate),
+    }
+}
+
+/// Opens what a word names, and reports on it into memory.
+fn answer_on<
+    R: Threads + Wait + Sync,
+    S: Source + Send + Drop,
+    F: SharedAt<Fault = Reason> + Sync + Drop,
+    O: Opener<S, F>,
+    G: Gate + Sync,
+>(
+    rt: &R,
+    alloc: Global,
+    opener: &O,
+    word: &str,
+    command: &Command,
+    gate: &G,
+) -> Result<Answer, FileFault>
+    requires { 1 ≤ command.now.piece }
+    ensures ok { IfOk result (λ answer. IsAnsweredBy (ways_of (O.opens opener.now) (O.why opener.now) (O.shares opener.now) (O.may_fail opener.now) S.remaining S.has_failed) command.now word.now answer) }
+    ensures err { IfErr result (λ fault. IsFaultAt (ways_of (O.opens opener.now) (O.why opener.now) (O.shares opener.now) (O.may_fail opener.now) S.remaining S.has_failed) command.now word.now fault) }
+{
+    match opener.open(word) {
+        Ok(input) => answer_to(rt, alloc, opener, input, command, gate),
+        Err(fault) => Err(fault),
+    }
+}
+
 /// What is written for a word: the lines for what it names, behind the word.
-fn part_of<R: Threads + Wait + Sync, S: Source + Send + Drop, O: Opener<S>, G: Gate + Sync>(
+fn part_of<
+    R: Threads + Wait + Sync,
+    S: Source + Send + Drop,
+    F: SharedAt<Fault = Reason> + Sync + Drop,
+    O: Opener<S, F>,
+    G: Gate + Sync,
+>(
     rt: &R,
     alloc: Global,
     opener: &O,
@@ -69,8 +162,8 @@ fn part_of<R: Threads + Wait + Sync, S: Source + Send + Drop, O: Opener<S>, G: G
     gate: &G,
 ) -> Result<Part, FileFault>
     requires { 1 ≤ command.now.piece }
-    ensures ok { IfOk result (λ part. IsPartOf (ways_of (O.opens opener.now) (O.why opener.now) S.remaining S.has_failed) command.now word.now part) }
-    ensures err { IfErr result (λ fault. IsFaultAt (ways_of (O.opens opener.now) (O.why opener.now) S.remaining S.has_failed) command.now word.now fault) }
+    ensures ok { IfOk result (λ part. IsPartOf (ways_of (O.opens opener.now) (O.why opener.now) (O.shares opener.now) (O.may_fail opener.now) S.remaining S.has_failed) command.now word.now part) }
+    ensures err { IfErr result (λ fault. IsFaultAt (ways_of (O.opens opener.now) (O.why opener.now) (O.shares opener.now) (O.may_fail opener.now) S.remaining S.has_failed) command.now word.now fault) }
 {
     let answer = answer_on(rt, alloc, opener, word, command, gate)?;
     match named_lines(alloc, word, &answer.lines) {
@@ -86,7 +179,8 @@ fn part_of<R: Threads + Wait + Sync, S: Source + Send + Drop, O: Opener<S>, G: G
 fn report_on_one<
     R: Threads + Wait + Sync,
     S: Source + Send + Drop,
-    O: Opener<S>,
+    F: SharedAt<Fault = Reason> + Sync + Drop,
+    O: Opener<S, F>,
     W: Sink,
     E: Sink,
     G: Gate + Sync,
@@ -102,9 +196,9 @@ fn report_on_one<
 ) -> Result<Status, ReportFault>
     requires writer { W.has_failed writer.old ≡ false }
     requires piece { 1 ≤ command.now.piece }
-    ensures ok { IfOk result (λ status. ReportsOne (ways_of (O.opens opener.now) (O.why opener.now) S.remaining S.has_failed) command.now word.now
+    ensures ok { IfOk result (λ status. ReportsOne (ways_of (O.opens opener.now) (O.why opener.now) (O.shares opener.now) (O.may_fail opener.now) S.remaining S.has_failed) command.now word.now
         (W.contents writer.old) (W.contents writer.new) (E.has_failed errors.new) (E.contents errors.old) (E.contents errors.new) status) }
-    ensures err { OnErr result (ReportsPart (ways_of (O.opens opener.now) (O.why opener.now) S.remaining S.has_failed) command.now word.now (W.contents writer.old) (W.contents writer.new)) }
+    ensures err { OnErr result (ReportsPart (ways_of (O.opens opener.now) (O.why opener.now) (O.shares opener.now) (O.may_fail opener.now) S.remaining S.has_failed) command.now word.now (W.contents writer.old) (W.contents writer.new)) }
     ensures fault { IfErr result (λ fault. fault ≡ ReportFault.Write) }
     ensures failed { W.has_failed writer.new ≡ is_err result }
     ensures lost { E.has_failed errors.old ≡ true → E.has_failed errors.new ≡ true }
@@ -138,7 +232,8 @@ fn word_at<'a>(words: &[&'a str], number: usize) -> &'a str
 pub fn report_on_each<
     R: Threads + Wait + Sync,
     S: Source + Send + Drop,
-    O: Opener<S>,
+    F: SharedAt<Fault = Reason> + Sync + Drop,
+    O: Opener<S, F>,
     W: Sink,
     E: Sink,
     G: Gate + Sync,
@@ -154,10 +249,10 @@ pub fn report_on_each<
 ) -> Result<Status, ReportFault>
     requires writer { W.has_failed writer.old ≡ false }
     requires piece { 1 ≤ command.now.piece }
-    ensures ok { IfOk result (λ status. ReportsEach (ways_of (O.opens opener.now) (O.why opener.now) S.remaining S.has_failed) command.now (map (λ word. word.now) words.now)
+    ensures ok { IfOk result (λ status. ReportsEach (ways_of (O.opens opener.now) (O.why opener.now) (O.shares opener.now) (O.may_fail opener.now) S.remaining S.has_failed) command.now (map (λ word. word.now) words.now)
         (W.contents writer.old) (W.contents writer.new) (E.has_failed errors.new) (E.contents errors.old) (E.contents errors.new) status) }
     // After a write fault a beginning of the output for the first words was written.
-    ensures err { OnErr result (ReportsFirst (ways_of (O.opens opener.now) (O.why opener.now) S.remaining S.has_failed) command.now (map (λ word. word.now) words.now)
+    ensures err { OnErr result (ReportsFirst (ways_of (O.opens opener.now) (O.why opener.now) (O.shares opener.now) (O.may_fail opener.now) S.remaining S.has_failed) command.now (map (λ word. word.now) words.now)
         (W.contents writer.old) (W.contents writer.new)) }
     ensures fault { IfErr result (λ fault. fault ≡ ReportFault.Write) }
     ensures failed { W.has_failed writer.new ≡ is_err result }

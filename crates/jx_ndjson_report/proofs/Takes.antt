@@ -20,8 +20,8 @@ use Rattle.jx_ndjson.proofs.Moved.{bad_moved}
 use Rattle.jx_ends.specs.declared.exit.Exit.{Exit}
 use Rattle.jx_words.specs.Verdicts.{shown_output}
 use Rattle.jx_ndjson_report.specs.declared.task.LinesTask.{LinesTask}
-use Rattle.jx_ndjson_report.specs.Output.{IsDue, LinesOutput, bad_lines, bad_of, good_of, is_bad, is_good}
-use Rattle.jx_ndjson_report.specs.inside.LineSteps.{bad_line, exit_by, total_words}
+use Rattle.jx_ndjson_report.specs.Output.{IsDue, LinesOutput, bad_lines, bad_of, good_of, is_bad, is_good, total_words}
+use Rattle.jx_ndjson_report.specs.inside.LineSteps.{bad_line, exit_by}
 use Rattle.jx_ndjson_report.specs.inside.LineTeller.{HasTaken, LineTellerValue}
 use Rattle.jx_ndjson_report.proofs.Told.{lines_among, more_bad, more_good, more_lines, one_more_bad, one_more_good, one_more_line, others_good, same_exit, told_among}
 
@@ -179,23 +179,23 @@ due law task bytes given t h = record { answers = h.answers; are_answers = law t
 
 ends : (task : LinesTask) (bytes given ready : List ℕ) (answers : List JudgedLine) (good bad : ℕ) (exit : Exit) → AreAnswers task.settings bytes answers → good ≡ length (good_of answers)
     → bad ≡ length (bad_of task.blanks answers) → given ++ ready ≡ bad_lines task answers → exit ≡ exit_by bad
-    → LinesOutput task bytes (given ++ (ready ++ shown_output task.is_quiet (total_words task.front.items good bad))) exit
+    → LinesOutput task bytes (given ++ (ready ++ shown_output task.is_quiet (total_words task.form task.front.items good bad))) exit
 ends task bytes given ready answers good bad exit are g b written e =
     record {
       answers = answers;
       are_answers = are;
       written =
-          sym (append_assoc given ready (shown_output task.is_quiet (total_words task.front.items good bad)))
-          ∙ ap (λ (xs : List ℕ). xs ++ shown_output task.is_quiet (total_words task.front.items good bad)) written
-          ∙ ap (λ (n : ℕ). bad_lines task answers ++ shown_output task.is_quiet (total_words task.front.items n bad)) g
-          ∙ ap (λ (n : ℕ). bad_lines task answers ++ shown_output task.is_quiet (total_words task.front.items (length (good_of answers)) n)) b;
+          sym (append_assoc given ready (shown_output task.is_quiet (total_words task.form task.front.items good bad)))
+          ∙ ap (λ (xs : List ℕ). xs ++ shown_output task.is_quiet (total_words task.form task.front.items good bad)) written
+          ∙ ap (λ (n : ℕ). bad_lines task answers ++ shown_output task.is_quiet (total_words task.form task.front.items n bad)) g
+          ∙ ap (λ (n : ℕ). bad_lines task answers ++ shown_output task.is_quiet (total_words task.form task.front.items (length (good_of answers)) n)) b;
       ends = e ∙ ap exit_by b ∙ sym (same_exit (bad_of task.blanks answers));
     }
 
 -- without a last line
 pub ends_so : (task : LinesTask) (bytes given ready : List ℕ) (old : LineTellerValue) (exit : Exit) → HasTaken task bytes given old
     → ((settings : Settings) (input : List ℕ) (told : List JudgedLine) → HasTold settings input told old.lines → AreAnswers settings input (told ++ []))
-    → ready ≡ old.ready ++ shown_output task.is_quiet (total_words task.front.items old.good old.bad) → exit ≡ exit_by old.bad → LinesOutput task bytes (given ++ ready) exit
+    → ready ≡ old.ready ++ shown_output task.is_quiet (total_words task.form task.front.items old.good old.bad) → exit ≡ exit_by old.bad → LinesOutput task bytes (given ++ ready) exit
 ends_so task bytes given ready old exit h last is e =
     subst (λ (xs : List ℕ). LinesOutput task bytes (given ++ xs) exit) (sym is)
     (ends task bytes given old.ready h.answers old.good old.bad exit
@@ -206,7 +206,7 @@ ends_so task bytes given ready old exit h last is e =
 pub ends_with : (task : LinesTask) (bytes given mid ready : List ℕ) (j : JudgedLine) (old : LineTellerValue) (good bad : ℕ) (exit : Exit) → HasTaken task bytes given old
     → ((settings : Settings) (input : List ℕ) (told : List JudgedLine) → HasTold settings input told old.lines → AreAnswers settings input (told ++ j ∷ []))
     → good ≡ old.good + cond (is_good j.verdict) 1 0 → bad ≡ old.bad + cond (is_bad task.blanks j.verdict) 1 0
-    → mid ≡ old.ready ++ bad_line task j → ready ≡ mid ++ shown_output task.is_quiet (total_words task.front.items good bad) → exit ≡ exit_by bad → LinesOutput task bytes (given ++ ready) exit
+    → mid ≡ old.ready ++ bad_line task j → ready ≡ mid ++ shown_output task.is_quiet (total_words task.form task.front.items good bad) → exit ≡ exit_by bad → LinesOutput task bytes (given ++ ready) exit
 ends_with task bytes given mid ready j old good bad exit h last g b told is e =
     subst (λ (xs : List ℕ). LinesOutput task bytes (given ++ xs) exit) (sym is)
     (ends task bytes given mid (h.answers ++ j ∷ []) good bad exit (last task.settings bytes h.answers h.told)

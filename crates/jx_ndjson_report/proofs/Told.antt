@@ -22,13 +22,13 @@ one_line f j false = refl
 pub one_more_line : (task : LinesTask) (answers : List JudgedLine) (j : JudgedLine) → bad_lines task (answers ++ j ∷ []) ≡ bad_lines task answers ++ bad_line task j
 one_more_line task answers j = pick task.is_quiet
   where
-    pick : (q : Bool) → shown_output q (flat_map (told_line task.front.items) (bad_of task.blanks (answers ++ j ∷ [])))
-        ≡ shown_output q (flat_map (told_line task.front.items) (bad_of task.blanks answers)) ++ shown_output q (cond (is_bad task.blanks j.verdict) (told_line task.front.items j) [])
+    pick : (q : Bool) → shown_output q (flat_map (told_line task.form task.front.items) (bad_of task.blanks (answers ++ j ∷ [])))
+        ≡ shown_output q (flat_map (told_line task.form task.front.items) (bad_of task.blanks answers)) ++ shown_output q (cond (is_bad task.blanks j.verdict) (told_line task.form task.front.items j) [])
     pick true = refl
     pick false =
-        ap (flat_map (told_line task.front.items)) (filter-append (λ (x : JudgedLine). is_bad task.blanks x.verdict) answers (j ∷ []))
-        ∙ flat_map-append (told_line task.front.items) (bad_of task.blanks answers) (cond (is_bad task.blanks j.verdict) (j ∷ []) [])
-        ∙ ap (λ (xs : List ℕ). flat_map (told_line task.front.items) (bad_of task.blanks answers) ++ xs) (one_line (told_line task.front.items) j (is_bad task.blanks j.verdict))
+        ap (flat_map (told_line task.form task.front.items)) (filter-append (λ (x : JudgedLine). is_bad task.blanks x.verdict) answers (j ∷ []))
+        ∙ flat_map-append (told_line task.form task.front.items) (bad_of task.blanks answers) (cond (is_bad task.blanks j.verdict) (j ∷ []) [])
+        ∙ ap (λ (xs : List ℕ). flat_map (told_line task.form task.front.items) (bad_of task.blanks answers) ++ xs) (one_line (told_line task.form task.front.items) j (is_bad task.blanks j.verdict))
 
 -- ---- counts
 
@@ -67,12 +67,12 @@ more_lines task answers more = pick task.is_quiet
     front : List ℕ
     front = task.front.items
 
-    pick : (q : Bool) → shown_output q (flat_map (told_line front) (bad_of task.blanks (answers ++ more)))
-        ≡ shown_output q (flat_map (told_line front) (bad_of task.blanks answers)) ++ shown_output q (flat_map (told_line front) (bad_of task.blanks more))
+    pick : (q : Bool) → shown_output q (flat_map (told_line task.form front) (bad_of task.blanks (answers ++ more)))
+        ≡ shown_output q (flat_map (told_line task.form front) (bad_of task.blanks answers)) ++ shown_output q (flat_map (told_line task.form front) (bad_of task.blanks more))
     pick true = refl
     pick false =
-        ap (flat_map (told_line front)) (filter-append (λ (x : JudgedLine). is_bad task.blanks x.verdict) answers more)
-        ∙ flat_map-append (told_line front) (bad_of task.blanks answers) (bad_of task.blanks more)
+        ap (flat_map (told_line task.form front)) (filter-append (λ (x : JudgedLine). is_bad task.blanks x.verdict) answers more)
+        ∙ flat_map-append (told_line task.form front) (bad_of task.blanks answers) (bad_of task.blanks more)
 
 pub more_good : (answers more : List JudgedLine) → length (good_of (answers ++ more)) ≡ length (good_of answers) + length (good_of more)
 more_good answers more = ap length (filter-append (λ (x : JudgedLine). is_good x.verdict) answers more) ∙ length-append (good_of answers) (good_of more)
@@ -122,4 +122,4 @@ others_good rule (j ∷ js) = pick (kind_by rule j j.verdict refl) (others_good 
         omega (arith, h, x, y)
 
 pub lines_among : (task : LinesTask) (js : List JudgedLine) → bad_lines task (no_texts_of js) ≡ bad_lines task js
-lines_among task js = ap (λ (xs : List JudgedLine). shown_output task.is_quiet (flat_map (told_line task.front.items) xs)) (told_among task.blanks js)
+lines_among task js = ap (λ (xs : List JudgedLine). shown_output task.is_quiet (flat_map (told_line task.form task.front.items) xs)) (told_among task.blanks js)

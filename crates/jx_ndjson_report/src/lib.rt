@@ -13,4 +13,4 @@ mod words;
 
 pub use laws::elements_are_told_as_by_seq;
 pub use reporting::{report_lines, report_sequence};
-pub use task::{BlankRule, ElementsTask, LinesTask};
+pub use task::{BlankRule, ElementsTask, LineForm, LinesTask};

@@ -3,19 +3,18 @@ ghost use Rattle.std.specs.Prelude.{◌≡◌, ◌+◌, ◌<◌, ◌≤◌, ◌^
 ghost use Rattle.jx_ndjson.specs.declared.judged_line.JudgedLine.{JudgedLine};
 ghost use Rattle.jx_ndjson.specs.WholeLines.{AreWhole, moved_line};
 ghost use Rattle.jx_words.specs.Verdicts.{shown_output};
-ghost use Rattle.jx_ndjson_report.specs.Output.{bad_lines, bad_of, is_bad, is_good};
+ghost use Rattle.jx_ndjson_report.specs.Output.{bad_lines, bad_of, is_bad, is_good, total_words};
 ghost use Rattle.jx_ndjson_report.specs.inside.LineTeller.{HasTaken};
 ghost use Rattle.jx_ndjson_report.specs.inside.Shared.{IsShared};
-ghost use Rattle.jx_ndjson_report.specs.inside.LineSteps.{bad_line, exit_by, total_words};
+ghost use Rattle.jx_ndjson_report.specs.inside.LineSteps.{bad_line, exit_by};
 
 use crate::line_batch::SharedLines;
 use crate::task::LinesTask;
 use crate::teller::Teller;
-use crate::words::{add_line, is_bad, is_good};
+use crate::words::{add_counts, add_line, is_bad, is_good};
 use jx_ends::Exit;
 use jx_lex::{Depth, Span};
 use jx_ndjson::{JudgedLine, LineReader, WholeLines, texts_in_front, what_is_told_are_ended_lines};
-use jx_words::add_number;
 use std::alloc::{AllocError, Global};
 use std::marker::Model;
 
@@ -32,7 +31,7 @@ fn add_bad(ready: &mut Vec<u8>, task: &LinesTask, judged: JudgedLine) -> Result<
     ensures { OnOk result (ready.new.items ≡ ready.old.items ++ bad_line task.now judged) }
 {
     if !task.is_quiet && is_bad(task.blanks, judged.verdict) {
-        add_line(ready, &task.front, judged)?;
+        add_line(ready, task.form, &task.front, judged)?;
     }
     Ok(())
 }
@@ -65,17 +64,12 @@ fn add_total(
     good: usize,
     bad: usize,
 ) -> Result<(), AllocError>
-    ensures { OnOk result (ready.new.items ≡ ready.old.items ++ shown_output task.now.is_quiet (total_words task.now.front.items good bad)) }
+    ensures { OnOk result (ready.new.items ≡ ready.old.items ++ shown_output task.now.is_quiet (total_words task.now.form task.now.front.items good bad)) }
 {
     if task.is_quiet {
         return Ok(());
     }
-    ready.extend_from_slice(&task.front)?;
-    ready.extend_from_slice(b"accepted ")?;
-    add_number(ready, good)?;
-    ready.extend_from_slice(b", refused ")?;
-    add_number(ready, bad)?;
-    ready.extend_from_slice(b"\n")
+    add_counts(ready, task.form, &task.front, good, bad)
 }
 
 fn exit_by(bad: usize) -> Exit
@@ -91,7 +85,7 @@ fn add_end(
     good: usize,
     bad: usize,
 ) -> Result<Exit, AllocError>
-    ensures total { OnOk result (ready.new.items ≡ ready.old.items ++ shown_output task.now.is_quiet (total_words task.now.front.items good bad)) }
+    ensures total { OnOk result (ready.new.items ≡ ready.old.items ++ shown_output task.now.is_quiet (total_words task.now.form task.now.front.items good bad)) }
     ensures exit { IfOk result (λ exit. exit ≡ exit_by bad) }
 {
     add_total(ready, task, good, bad)?;

@@ -10,6 +10,17 @@ pub enum BlankRule {
     Passed,
 }
 
+/// What is written for a line.
+#[derive(Clone, Copy, Debug, PartialEq, Eq)]
+pub enum LineForm {
+    /// Its number, its span and its verdict. The counts of all stand behind the last one.
+    Plain,
+    /// As compilers tell of faults: its number, the column of the place and its verdict. Nothing tells how many there are.
+    Mark,
+    /// The rest of a JSON object whose beginning stands in front. An object with the counts stands behind the last one.
+    Object,
+}
+
 /// What a report on lines is to do.
 #[derive(Debug, Drop)]
 pub struct LinesTask {
@@ -17,6 +28,8 @@ pub struct LinesTask {
     pub settings: Settings,
     /// What becomes of blank lines.
     pub blanks: BlankRule,
+    /// What is written for a line.
+    pub form: LineForm,
     /// What stands in front of each line that is written.
     pub front: Vec<u8>,
     /// Whether nothing is written.

@@ -1,5 +1,6 @@
 // An input that is read to its end and answered.
-ghost use Rattle.std.specs.Prelude.{◌≡◌, ◌≢◌, ◌<◌, ◌≤◌, ◌↔◌, [], vec_len, false, true, OnOk, IfOk, IfErr, IsErrOf};
+ghost use Rattle.std.specs.Prelude.{◌≡◌, ◌≢◌, ◌<◌, ◌≤◌, ◌↔◌, [], length, take, vec_len, false, true, OnOk, IfOk, IfErr, IfSome, IsErrOf};
+ghost use Rattle.std.specs.Io.KnownBytes.{Consumes, IsAtEnd};
 ghost use Rattle.jx_report.specs.Output.{Output};
 ghost use Rattle.jx_report.specs.Reports.{HasTooManyPieces, IsAnswered};
 ghost use Rattle.jx_report.specs.inside.Batches.{IsFilled, IsReadingOf, ReadsOn};
@@ -10,7 +11,7 @@ use crate::reading::Reading;
 use crate::reply::{Reply, reply_to};
 use jx_answer::is_short;
 use jx_claim::Cutting;
-use jx_crew::{Crew, Gate};
+use jx_crew::{Crew, Event, Gate, Go, PieceNo};
 use jx_ends::{ReportFault, Source, fill_buffer, read_to_end};
 use jx_task::Command;
 use std::alloc::AllocError;
@@ -158,6 +159,106 @@ fn answer_in_batches<R: Threads + Wait + Sync, S: Source + Send, G: Gate + Sync>
     unreachable!()
 }
 
+/// How many bytes are read first, where one thread reads and judges. A short text takes no more memory than it needs.
+const FIRST_READ: usize = 16 * 1024;
+
+/// Reads once, and returns how many bytes the reader gave; 0 at the end of input.
+fn read_once<S: Source>(reader: &mut S, bytes: &mut [u8]) -> Result<usize, ReportFault>
+    requires unfailed { S.has_failed reader.old ≡ false }
+    requires room { 1 ≤ length bytes.old }
+    ensures within { IfOk result (λ count. count ≤ length bytes.new) }
+    ensures ok { IfOk result (λ count. Consumes (S.remaining reader.old) (S.remaining reader.new) (take count bytes.new)) }
+    ensures end { IfOk result (λ count. count ≡ 0 → IsAtEnd (S.remaining reader.new)) }
+    ensures going { IfOk result (λ _. S.has_failed reader.new ≡ false) }
+    ensures read { IsErrOf result ReportFault.Read ↔ (S.has_failed reader.new ≡ true) }
+    ensures unwritten { IfErr result (λ fault. fault ≢ ReportFault.Write) }
+    ensures uncut { IfErr result (λ fault. fault ≢ ReportFault.Pieces) }
+{
+    match reader.read(bytes) {
+        Ok(count) => Ok(count),
+        Err(_) => Err(ReportFault::Read),
+    }
+}
+
+/// Twice as much room for the next read, up to `most` bytes, where the last one had too little.
+fn widen(bytes: &mut Vec<u8>, count: usize, most: usize) -> Result<(), AllocError>
+    requires some { 1 ≤ vec_len bytes.old }
+    ensures some { OnOk result (1 ≤ vec_len bytes.new) }
+{
+    if count < bytes.len() || bytes.len() >= most {
+        return Ok(());
+    }
+    bytes.resize(bytes.len().saturating_mul(2).min(most), 0)
+}
+
+/// Whether a reading asks no gate by itself: its tokens are judged in turn, without pieces.
+fn asks_nothing(reading: &Reading<'_>) -> bool {
+    match reading {
+        Reading::Names(_) | Reading::Pointers(_) => true,
+        Reading::Text { .. } | Reading::Elements(_) => false,
+    }
+}
+
+/// Asks the gate before a read is judged as one piece. Behind a stop nothing is asked.
+fn is_asked_again<G: Gate>(gate: &G) -> bool {
+    let event = Event::Drew {
+        worker: 0,
+        piece: PieceNo(0),
+    };
+    gate.pass(event) == Go::On
+}
+
+/// Reads to the end of input on one thread, and takes in what each read gives. So who fills a pipe writes while this judges,
+/// and neither waits until a buffer is full.
+fn answer_read_by_read<R: Threads + Wait + Sync, S: Source, G: Gate + Sync>(
+    crew: &Crew<'_, R, G>,
+    reader: &mut S,
+    command: &Command,
+    mut reading: Reading<'_>,
+    most: usize,
+) -> Result<Reply, ReportFault>
+    requires reader { S.has_failed reader.old ≡ false }
+    requires begins { IsReadingOf command.now.task command.now.settings [] reading }
+    requires piece { 1 ≤ command.now.piece }
+    requires some { 1 ≤ most }
+    ensures ok { IfOk result (λ reply. IsAnswered (Output command.now.task command.now.settings) command.now.piece (S.remaining reader.old)
+        (S.remaining reader.new) (reply_output reply) (reply_exit reply)) }
+    ensures read { IsErrOf result ReportFault.Read ↔ (S.has_failed reader.new ≡ true) }
+    ensures unwritten { IfErr result (λ fault. fault ≢ ReportFault.Write) }
+    ensures pieces { IsErrOf result ReportFault.Pieces → HasTooManyPieces command.now (S.remaining reader.old)
+        (S.remaining reader.new) }
+{
+    let mut bytes = Vec::new(crew.alloc);
+    bytes.resize(FIRST_READ.min(most), 0)?;
+    let mut asks = asks_nothing(&reading);
+    for _ in crew.rt.forever() {
+        let count = read_once(reader, bytes.as_mut_slice())?;
+        if count == 0 {
+            return reading.into_reply(command);
+        }
+        asks = asks && is_asked_again(crew.gate);
+        reading.read(crew, &bytes[..count], command.piece)?;
+        widen(&mut bytes, count, most)?;
+    }
+    unreachable!()
+}
+
+/// How many bytes are read at most at a time where one thread reads and judges: there is one worker, or tokens are judged in
+/// turn.
+fn most_alone(command: &Command, reading: &Reading<'_>, batch: usize) -> Option<usize>
+    requires some { 1 ≤ batch }
+    ensures some { IfSome result (λ most. 1 ≤ most) }
+{
+    if command.workers.count() == 1 {
+        return Some(batch);
+    }
+    if asks_nothing(reading) {
+        Some(batch.min(FIRST_STEP))
+    } else {
+        None
+    }
+}
+
 /// Reads to the end of input, and has it answered by the crew. While a text or the elements of a sequence are judged, or few
 /// pointers are looked up, at most two batches of the input are kept, of so many bytes each. Beside them a name is kept for
 /// pointers, the names of open objects of a text whose names have to be unique, and the last element of such a sequence. For
@@ -170,6 +271,7 @@ pub(crate) fn answer_to_input<R: Threads + Wait + Sync, S: Source + Send, G: Gat
 ) -> Result<Reply, ReportFault>
     requires reader { S.has_failed reader.old ≡ false }
     requires piece { 1 ≤ command.now.piece }
+    requires some { 1 ≤ batch }
     ensures ok { IfOk result (λ reply. IsAnswered (Output command.now.task command.now.settings) command.now.piece (S.remaining reader.old)
         (S.remaining reader.new) (reply_output reply) (reply_exit reply)) }
     ensures read { IsErrOf result ReportFault.Read ↔ (S.has_failed reader.new ≡ true) }
@@ -178,8 +280,11 @@ pub(crate) fn answer_to_input<R: Threads + Wait + Sync, S: Source + Send, G: Gat
         (S.remaining reader.new) }
 {
     let few = few_pointers(crew.alloc, command)?;
-    match Reading::of(crew.alloc, command, few)? {
-        Some(reading) => answer_in_batches(crew, reader, command, reading, batch),
-        None => answer_to_all(crew, reader, command),
+    let Some(reading) = Reading::of(crew.alloc, command, few)? else {
+        return answer_to_all(crew, reader, command);
+    };
+    match most_alone(command, &reading, batch) {
+        Some(most) => answer_read_by_read(crew, reader, command, reading, most),
+        None => answer_in_batches(crew, reader, command, reading, batch),
     }
 }

@@ -84,8 +84,8 @@ pub fn report_in_batches<R: Threads + Wait + Sync, S: Source + Send, W: Sink, G:
 ///
 /// The gate changes no output. One worker asks it as each piece of a batch begins, and the pieces of a batch are numbered
 /// from 0. Several workers ask after each step, as by `read_batch`, and by `judge_batch` for what stands between two record
-/// separators. Rows are asked for by one worker. Names that have to be unique are read with no question, and so are pointers
-/// looked up, but many of them as by `find_all`, and in such a text as by `verdict_of_text`. Less than a MiB is read by the
+/// separators. Rows are asked for by one worker. Where names have to be unique, or few pointers are looked up, one thread reads,
+/// and asks before it judges what a read gave, as piece 0. Many pointers are looked up as by `find_all`. Less than a MiB is read by the
 /// calling thread alone where nobody is asked (`Gate::is_asked`). With several workers the reader is also called from another
 /// thread, one call at a time.
 pub fn report<R: Threads + Wait + Sync, S: Source + Send, W: Sink, G: Gate + Sync>(

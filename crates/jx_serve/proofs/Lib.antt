@@ -4,3 +4,4 @@ pub mod LastHolding
 pub mod Outlines
 pub mod ValuesAt
 pub mod Grown
+pub mod Marked

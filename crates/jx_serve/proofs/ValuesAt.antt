@@ -1,5 +1,5 @@
 -- The value at an offset, by the index of a text, and what is shown of it.
-use Rattle.std.proofs.Common.{◌≡◌, ℕ, Bool, List, true, false, inl, inr, refl, subst, ◌∙◌}
+use Rattle.std.proofs.Common.{◌≡◌, ◌≤◌, ℕ, Bool, List, true, false, inl, inr, refl, subst, ◌∙◌}
 use Rattle.std.specs.Prelude.{◌⊎◌, Option, None, Some, Result, Ok, IfSome, Vec, slice_get}
 use Rattle.std.specs.Global.{Global}
 use Rattle.jx_edit.specs.Positions.{offset_at}
@@ -19,7 +19,7 @@ use Rattle.jx_run.specs.declared.texts.verdict.Refusal.{Refusal}
 use Rattle.jx_wire.specs.declared.call.Place.{Place}
 use Rattle.jx_serve.specs.Changes.{HeldValue, position}
 use Rattle.jx_complete.specs.Completed.{IsCompleted}
-use Rattle.jx_serve.specs.Values.{any_names, in_no_value, HasNoHover, HasNoValueAt, no_text, in_none, IsFoundAt, IsHovered, IsInNone, IsInnermost, IsValueAt}
+use Rattle.jx_serve.specs.Values.{any_names, in_no_value, is_due, HasNoHover, HasNoValueAt, no_text, in_none, IsFoundAt, IsHovered, IsInNone, IsInnermost, IsValueAt}
 use Rattle.jx_serve.proofs.Outlines.{not_refused}
 use Rattle.jx_serve.specs.declared.hover.Hover.{Hover}
 use Rattle.jx_serve.specs.declared.under_cursor.ValueAt.{ValueAt}
@@ -79,6 +79,13 @@ pub no_hover : (settings s : Settings) (bytes text : List ℕ) (kept offset : �
 no_hover settings s bytes text kept offset value is c n found =
     let x : IsFoundAt s text offset None = subst (IsFoundAt s text offset) n found in
     no_hover_by settings bytes text kept offset c (subst (λ z. HasNoValueAt z text offset) is x)
+
+-- nor is a value that begins at the fault or behind it
+pub due : (settings s : Settings) (bytes text : List ℕ) (kept offset : ℕ) (found : Option ValueAt) (value : ValueAt) → s ≡ any_names settings → IsCompleted (any_names settings) bytes text kept
+    → found ≡ Some value → IsFoundAt s text offset found → kept ≤ value.row.span.start → HasNoHover settings bytes offset
+due settings s bytes text kept offset found value is c some at late =
+    let x : IsFoundAt s text offset (Some value) = subst (IsFoundAt s text offset) some at in
+    is_due c (subst (λ z. IsValueAt z text offset value) is x) late
 
 either : {A : Type 0} (b : Bool) → (b ≡ false → A) → (b ≡ true) ⊎ A
 either true f = inl refl

@@ -1,5 +1,5 @@
 -- How the lines of a document that are no texts are shown.
-use Rattle.std.specs.Prelude.{◌≡◌, ◌≤◌, ◌<◌, ◌+◌, ◌-◌, ℕ, List}
+use Rattle.std.specs.Prelude.{◌≡◌, ◌≤◌, ◌<◌, ◌+◌, ◌-◌, ◌&&◌, ◌||◌, ℕ, List, [], ◌∷◌, Bool, false, true, if◌then◌else◌, length, take}
 use Rattle.std.specs.List.{AllZip}
 use Rattle.jx_edit.specs.Positions.{position_at}
 use Rattle.jx_edit.specs.declared.positions.encoding.Encoding.{Encoding}
@@ -14,6 +14,7 @@ use Rattle.jx_run.specs.declared.texts.verdict.Refusal.{Refusal}
 use Rattle.jx_run.specs.declared.texts.verdict.Refusal.TheVariants.{Stopped, Truncated, TooDeep, RepeatedName}
 use Rattle.jx_summary.specs.declared.span.Span.{Span}
 use Rattle.jx_serve.specs.declared.line_mark.LineMark.{LineMark}
+use Rattle.jx_serve.specs.declared.line_mark.LineMarks.{LineMarks}
 
 -- ---- where
 
@@ -57,8 +58,25 @@ pub record IsMarkOf (e : Encoding) (bytes : List ℕ) (line : JudgedLine) (mark 
 abbrev pub AreMarksOf : Encoding → List ℕ → List JudgedLine → List LineMark → Type 0
 AreMarksOf e bytes lines marks = AllZip (IsMarkOf e bytes) lines marks
 
--- one for each line that is no text, in order
-pub record AreLineMarks (e : Encoding) (settings : Settings) (bytes : List ℕ) (marks : List LineMark) : Type 0 where
+abbrev pub is_blank : LineVerdict → Bool
+is_blank on_line.Accepted = false
+is_blank (on_line.Refused refusal) = false
+is_blank on_line.MayBeCut = false
+is_blank on_line.Blank = true
+
+-- without blank lines behind the first one; or without all, where one stands before them
+abbrev pub marked : Bool → List JudgedLine → List JudgedLine
+marked seen [] = []
+marked seen (line ∷ lines) =
+    if seen && is_blank line.verdict then marked seen lines else (line ∷ marked (seen || is_blank line.verdict) lines)
+
+-- at most so many are marked
+abbrev pub most_marks : ℕ
+most_marks = 1000
+
+-- one for each of the first lines that are no texts, in order, of blank ones for the first alone; and how many more are no texts
+pub record AreLineMarks (e : Encoding) (settings : Settings) (bytes : List ℕ) (marks : LineMarks) : Type 0 where
   pub answers : List JudgedLine
   pub are_answers : AreAnswers settings bytes answers
-  pub are_marks : AreMarksOf e bytes (bad_of answers) marks
+  pub are_marks : AreMarksOf e bytes (take most_marks (marked false (bad_of answers))) marks.marks.items
+  pub more_are : marks.more ≡ length (bad_of answers) - length marks.marks.items

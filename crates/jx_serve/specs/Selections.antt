@@ -1,5 +1,5 @@
 -- What stands around places of a document.
-use Rattle.std.specs.Prelude.{◌≡◌, ℕ, ◌&&◌, min, nat_le, nat_lt, List, [], ◌∷◌, ◌++◌, Bool, Option, None, Some, if◌then◌else◌, map, Vec}
+use Rattle.std.specs.Prelude.{◌≡◌, ℕ, ◌-◌, ◌&&◌, min, nat_le, nat_lt, List, [], ◌∷◌, ◌++◌, Bool, Option, None, Some, drop, if◌then◌else◌, length, map, Vec}
 use Rattle.std.specs.Global.{Global}
 use Rattle.std.specs.List.{flat_map, AllZip}
 use Rattle.jx_complete.specs.Completed.{IsCompleted, IsCutInMark}
@@ -43,10 +43,18 @@ chain_before kept offset table = if nat_le kept offset then [] else flat_map (sp
 abbrev pub extent_of : Encoding → List ℕ → ℕ → Span → Extent
 extent_of e bytes kept span = record { start = position_at e bytes span.start; end = position_at e bytes (min kept span.end) }
 
+-- around a place at most so many are told
+abbrev pub most_levels : ℕ
+most_levels = 200
+
+-- the last so many, which stand in all others
+abbrev pub innermost : List Span → List Span
+innermost spans = drop (length spans - most_levels) spans
+
 -- a place, as its offset has it, and what stands around it
 pub record IsSelection (e : Encoding) (bytes : List ℕ) (kept : ℕ) (table : List Row) (place : Place) (selection : Selection) : Type 0 where
   pub place_is : selection.place ≡ position_at e bytes (offset_at e bytes (position place))
-  pub around_is : selection.around.items ≡ map (extent_of e bytes kept) (chain_before kept (offset_at e bytes (position place)) table)
+  pub around_is : selection.around.items ≡ map (extent_of e bytes kept) (innermost (chain_before kept (offset_at e bytes (position place)) table))
 
 -- one for each place, in order
 abbrev pub AreSelectionsOf : Encoding → List ℕ → ℕ → List Row → List Place → List Selection → Type 0

@@ -19,7 +19,7 @@ use Rattle.jx_serve.specs.Values.{any_names, HasNoHover, IsHoverAt, IsOutline}
 use Rattle.jx_complete.specs.Completed.{IsCutInMark}
 use Rattle.jx_serve.specs.declared.reply.Code.TheVariants.{RequestFailed}
 use Rattle.jx_serve.specs.declared.reply.Reply.{Reply}
-use Rattle.jx_serve.specs.declared.line_mark.LineMark.{LineMark}
+use Rattle.jx_serve.specs.declared.line_mark.LineMarks.{LineMarks}
 use Rattle.jx_serve.specs.declared.reply.Reply.TheVariants.{Nothing, Initialized, Null, Hovered, Outlined, Folded, Selected, Refused, Published, PublishedLines, Closed, Logged}
 use Rattle.jx_serve.specs.declared.server.Phase.{Phase}
 
@@ -80,9 +80,9 @@ pub record IsVerdictOn (document : OpenValue) (uri : List ℕ) (verdict : Verdic
   pub is_text : document.content ≡ Text
   pub is_verdict : IsVerdictBy document.held.settings document.held.bytes verdict
 
--- the document is JSON Lines, and these marks tell of each of its lines that is no text, by its settings; its name is spelt so, and its
+-- the document is JSON Lines, and these marks tell of its lines that are no texts, by its settings; its name is spelt so, and its
 -- bytes are not lost
-pub record AreLinesOn (e : Encoding) (document : OpenValue) (uri : List ℕ) (marks : List LineMark) : Type 0 where
+pub record AreLinesOn (e : Encoding) (document : OpenValue) (uri : List ℕ) (marks : LineMarks) : Type 0 where
   pub is_spelt : document.spelt ≡ uri
   pub is_known : document.held.lost ≡ false
   pub has_lines : document.content ≡ Lines
@@ -91,7 +91,7 @@ pub record AreLinesOn (e : Encoding) (document : OpenValue) (uri : List ℕ) (ma
 -- what is published is the verdict on this document, or on its lines
 abbrev pub TellsOf : Encoding → OpenValue → Reply → Type 0
 TellsOf e document (Published uri version mark) = IsVerdictOn document uri.items (told mark)
-TellsOf e document (PublishedLines uri version marks) = AreLinesOn e document uri.items marks.items
+TellsOf e document (PublishedLines uri version marks) = AreLinesOn e document uri.items marks
 TellsOf e document _ = Unit {0}
 
 -- what is published is the verdict on a document that is open, or on its lines

@@ -77,7 +77,7 @@ sent server uri content text = record { name = uri.name.items; spelt = uri.spelt
 abbrev pub IsToldOf : Encoding → Option (Vec ℕ Global) → OpenValue → Reply → Type 0
 IsToldOf e version document (Published uri told_version shown) =
     IsVerdictOn document uri.items (told shown) × (told_version ≡ version) × IfSome shown (IsPlaced e document.held.bytes)
-IsToldOf e version document (PublishedLines uri told_version marks) = AreLinesOn e document uri.items marks.items × (told_version ≡ version)
+IsToldOf e version document (PublishedLines uri told_version marks) = AreLinesOn e document uri.items marks × (told_version ≡ version)
 IsToldOf e version document (Logged Lost) = document.held.lost ≡ true
 IsToldOf e version document (Logged Memory) = Unit {0}
 IsToldOf e version document _ = ⊥

@@ -1,5 +1,5 @@
 -- The value at an offset of a document, and how it is shown.
-use Rattle.std.specs.Prelude.{◌≡◌, ℕ, ◌<◌, ◌≤◌, ◌&&◌, min, nat_le, nat_lt, List, Bool, true, false, Option, None, Some, Ok, IfSome, map, position, slice_get, take}
+use Rattle.std.specs.Prelude.{◌≡◌, ℕ, ◌<◌, ◌≤◌, ◌&&◌, if◌then◌else◌, min, nat_le, nat_lt, List, Bool, true, false, Option, None, Some, Ok, IfSome, map, position, slice_get, take}
 use Rattle.jx_complete.specs.Completed.{IsCompleted, IsCutInMark}
 use Rattle.jx_edit.specs.Positions.{position_at}
 use Rattle.jx_edit.specs.declared.positions.encoding.Encoding.{Encoding}
@@ -14,6 +14,7 @@ use Rattle.jx_run.specs.declared.texts.settings.NameRule.TheVariants.{Any}
 use Rattle.jx_run.specs.declared.texts.settings.Settings.{Settings}
 use Rattle.jx_run.specs.declared.texts.verdict.Refusal.{Refusal}
 use Rattle.jx_run.specs.declared.texts.verdict.Verdict.TheVariants.{Refused}
+use Rattle.jx_summary.specs.declared.span.Span.{Span}
 use Rattle.jx_serve.specs.declared.hover.Hover.{Hover}
 use Rattle.jx_serve.specs.declared.symbols.Outline.{Outline}
 use Rattle.jx_serve.specs.declared.symbols.Symbol.{Symbol}
@@ -21,18 +22,26 @@ use Rattle.jx_serve.specs.declared.under_cursor.ValueAt.{ValueAt}
 
 -- ---- the value at an offset
 
+abbrev pub start_of : Option Span → Span → ℕ
+start_of None value = value.start
+start_of (Some name) value = name.start
+
+-- where a member begins, at its name, or a value that has none
+abbrev pub outer_start : Row → ℕ
+outer_start row = start_of row.name row.span
+
 abbrev pub holds : ℕ → Row → Bool
-holds offset row = nat_le row.span.start offset && nat_lt offset row.span.end
+holds offset row = nat_le (outer_start row) offset && nat_lt offset row.span.end
 
 abbrev pub holds_in : ℕ → Option Row → Bool
 holds_in offset None = false
 holds_in offset (Some row) = holds offset row
 
--- whether the span of the row with a number holds an offset
+-- whether the member or value of the row with a number holds an offset
 abbrev pub holds_at : List Row → ℕ → ℕ → Bool
 holds_at table offset number = holds_in offset (slice_get table number)
 
--- the last row whose span holds an offset. Rows stand in rising order of their starts, a value before those in it, so this is the
+-- the last row that holds an offset. Rows stand in rising order of their starts, a value before those in it, so this is the
 -- innermost of them
 pub record IsInnermost (table : List Row) (offset number : ℕ) : Type 0 where
   pub here : holds_at table offset number ≡ true
@@ -41,7 +50,7 @@ pub record IsInnermost (table : List Row) (offset number : ℕ) : Type 0 where
 abbrev pub IsInNone : List Row → ℕ → Type 0
 IsInNone table offset = (k : ℕ) → holds_at table offset k ≡ false
 
--- of a text, the innermost value that holds an offset; the pointer leads to it, if one is told
+-- of a text, the innermost value that holds an offset, or whose member does; the pointer leads to it, if one is told
 pub record IsValueAt (settings : Settings) (bytes : List ℕ) (offset : ℕ) (value : ValueAt) : Type 0 where
   pub tree : Tree
   pub is_text : IsDocumentBy settings 0 bytes tree
@@ -65,22 +74,29 @@ IsFoundAt settings bytes offset (Some value) = IsValueAt settings bytes offset v
 abbrev pub any_names : Settings → Settings
 any_names settings = record settings { names = Any }
 
+-- where a value at an offset is shown from: from its name on, where the offset stands before it
+abbrev pub shown_from : ℕ → Row → ℕ
+shown_from offset row = if nat_lt offset row.span.start then outer_start row else row.span.start
+
 -- the innermost value at an offset before the fault, and the positions of both its ends. It is a value of the text that stands in
--- the place of the bytes, and is shown as far as that has bytes of theirs
+-- the place of the bytes, begins before the fault, and is shown as far as that has bytes of theirs
 pub record IsHoverAt (e : Encoding) (settings : Settings) (bytes : List ℕ) (offset : ℕ) (hover : Hover) : Type 0 where
   pub text : List ℕ
   pub is_completed : IsCompleted (any_names settings) bytes text hover.kept
   pub before : offset < hover.kept
   pub is_value : IsValueAt (any_names settings) text offset hover.value
-  pub start_is : hover.start ≡ position_at e bytes hover.value.row.span.start
+  pub has_begun : hover.value.row.span.start < hover.kept
+  pub start_is : hover.start ≡ position_at e bytes (shown_from offset hover.value.row)
   pub end_is : hover.end ≡ position_at e bytes (min hover.kept hover.value.row.span.end)
 
--- no value begins before the fault, or the offset does not stand before it, or in no value
+-- no value begins before the fault, or the offset does not stand before it, or in no value, or in a member whose value is due there
 pub data HasNoHover (settings : Settings) (bytes : List ℕ) (offset : ℕ) : Type 0 where
   in_mark : IsCutInMark (any_names settings) bytes → HasNoHover settings bytes offset
   behind : {text : List ℕ} {kept : ℕ} → IsCompleted (any_names settings) bytes text kept → kept ≤ offset → HasNoHover settings bytes offset
   in_no_value : {text : List ℕ} {kept : ℕ} {tree : Tree} → IsCompleted (any_names settings) bytes text kept → IsDocumentBy (any_names settings) 0 text tree
       → IsInNone (rows tree) offset → HasNoHover settings bytes offset
+  is_due : {text : List ℕ} {kept : ℕ} {value : ValueAt} → IsCompleted (any_names settings) bytes text kept → IsValueAt (any_names settings) text offset value
+      → kept ≤ value.row.span.start → HasNoHover settings bytes offset
 
 abbrev pub IsHovered : Encoding → Settings → List ℕ → ℕ → Option Hover → Type 0
 IsHovered e settings bytes offset None = HasNoHover settings bytes offset
@@ -88,9 +104,20 @@ IsHovered e settings bytes offset (Some hover) = IsHoverAt e settings bytes offs
 
 -- ---- the values of a text
 
--- a row with the positions of both ends of its span, as far as so many bytes go
+-- the name of a row, or its value where it has none
+abbrev pub label_of : Option Span → Span → Span
+label_of None value = value
+label_of (Some name) value = name
+
+-- a row with the positions at which its member or value begins, its name or value ends, and both ends of its value, as far as so many bytes go
 abbrev pub symbol_of : Encoding → List ℕ → ℕ → Row → Symbol
-symbol_of e bytes kept row = record { row = row; start = position_at e bytes row.span.start; end = position_at e bytes (min kept row.span.end) }
+symbol_of e bytes kept row = record {
+  row = row;
+  outer = position_at e bytes (outer_start row);
+  label = position_at e bytes (min kept (label_of row.name row.span).end);
+  start = position_at e bytes row.span.start;
+  end = position_at e bytes (min kept row.span.end);
+}
 
 abbrev pub before_at : Option ℕ → List Row → List Row
 before_at None table = table

@@ -1,6 +1,6 @@
 -- How replies are spelt as messages (JSON-RPC 2.0; Language Server Protocol 3.17, "PublishDiagnostics Notification" and "LogMessage
 -- Notification"). Ids, versions and the names of documents are spelt as the client spelt them.
-use Rattle.std.specs.Prelude.{◌≡◌, ℕ, List, [], ◌∷◌, ◌++◌, Bool, false, true, Option, None, Some, Vec, codes, decimal}
+use Rattle.std.specs.Prelude.{◌≡◌, ℕ, ◌==◌, List, [], ◌∷◌, ◌++◌, Bool, false, true, Option, None, Some, Vec, codes, decimal, if◌then◌else◌}
 use Rattle.std.specs.Global.{Global}
 use Rattle.std.specs.List.{concat, flat_map}
 use Rattle.jx_edit.specs.declared.positions.position.Position.{Position}
@@ -9,6 +9,7 @@ use Rattle.jx_ndjson.specs.declared.judged_line.LineVerdict.TheVariants as on_li
 use Rattle.jx_run.specs.declared.texts.verdict.Refusal.{Refusal}
 use Rattle.jx_run.specs.declared.texts.verdict.Refusal.TheVariants.{Stopped, Truncated, TooDeep, RepeatedName}
 use Rattle.jx_serve.specs.declared.line_mark.LineMark.{LineMark}
+use Rattle.jx_serve.specs.declared.line_mark.LineMarks.{LineMarks}
 use Rattle.jx_serve.specs.declared.mark.Mark.{Mark}
 use Rattle.jx_serve.specs.declared.reply.Code.{Code}
 use Rattle.jx_serve.specs.declared.reply.Code.TheVariants as wrong
@@ -136,10 +137,18 @@ line_diagnostic mark = told_at mark.start mark.end (word_of_line mark.line.verdi
 abbrev pub next_diagnostic : LineMark → List ℕ
 next_diagnostic mark = codes "," ++ line_diagnostic mark
 
--- one for each, in order
-abbrev pub line_diagnostics : List LineMark → List ℕ
-line_diagnostics [] = []
-line_diagnostics (mark ∷ marks) = line_diagnostic mark ++ flat_map next_diagnostic marks
+abbrev pub words_of_more : ℕ → List ℕ
+words_of_more more = codes "more lines that are no JSON texts: " ++ decimal more
+
+-- how many more lines there are, at the first one
+abbrev pub more_diagnostic : LineMark → ℕ → List ℕ
+more_diagnostic mark more =
+    if more == 0 then [] else (codes "," ++ told_at mark.start mark.end (codes "more") (words_of_more more) [])
+
+-- one for each, in order, and one for all others
+abbrev pub line_diagnostics : List LineMark → ℕ → List ℕ
+line_diagnostics [] more = []
+line_diagnostics (mark ∷ marks) more = line_diagnostic mark ++ flat_map next_diagnostic marks ++ more_diagnostic mark more
 
 abbrev pub version_member : Option (Vec ℕ Global) → List ℕ
 version_member None = []
@@ -154,8 +163,8 @@ opening uri version =
 abbrev pub published : List ℕ → Option (Vec ℕ Global) → Option Mark → List ℕ
 published uri version mark = opening uri version ++ diagnostics mark ++ codes "]}}"
 
-abbrev pub published_lines : List ℕ → Option (Vec ℕ Global) → List LineMark → List ℕ
-published_lines uri version marks = opening uri version ++ line_diagnostics marks ++ codes "]}}"
+abbrev pub published_lines : List ℕ → Option (Vec ℕ Global) → LineMarks → List ℕ
+published_lines uri version marks = opening uri version ++ line_diagnostics marks.marks.items marks.more ++ codes "]}}"
 
 abbrev pub logged : Trouble → List ℕ
 logged why = codes "{\"jsonrpc\":\"2.0\",\"method\":\"window/logMessage\",\"params\":{\"type\":2,\"message\":\"" ++ words_of_trouble why ++ codes "\"}}"
@@ -173,6 +182,6 @@ IsMessageOf (Folded id outline) message = Unit {0}
 IsMessageOf (Selected id selections) message = Unit {0}
 IsMessageOf (Refused id code refusal) message = message ≡ refused id code refusal
 IsMessageOf (Published uri version mark) message = message ≡ published uri.items version mark
-IsMessageOf (PublishedLines uri version marks) message = message ≡ published_lines uri.items version marks.items
+IsMessageOf (PublishedLines uri version marks) message = message ≡ published_lines uri.items version marks
 IsMessageOf (Closed uri) message = message ≡ published uri.items None None
 IsMessageOf (Logged why) message = message ≡ logged why

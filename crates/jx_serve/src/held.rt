@@ -5,21 +5,21 @@ ghost use Rattle.jx_index.specs.ByNames.{IsVerdictBy};
 ghost use Rattle.jx_serve.specs.Changes.{changed, held, lose, position, replaced};
 ghost use Rattle.jx_serve.specs.LineMarks.{AreLineMarks};
 ghost use Rattle.jx_serve.specs.Marks.{told, IsPlaced};
-ghost use Rattle.jx_serve.specs.Values.{any_names, IsHovered, IsOutline, IsOutlined};
+ghost use Rattle.jx_serve.specs.Values.{any_names, shown_from, IsHovered, IsOutline, IsOutlined};
 ghost use Rattle.jx_serve.specs.Selections.{AreSelected, AreSelections};
 ghost use Rattle.jx_complete.specs.Completed.{IsCompleted, IsCutInMark};
 ghost use Rattle.jx_serve.specs.inside.Names.{IsHeld};
 ghost use Rattle.jx_edit.specs.Positions.{offset_at};
 
 use crate::hover::Hover;
-use crate::line_mark::{LineMark, line_marks_of};
+use crate::line_mark::{LineMarks, line_marks_of};
 use crate::mark::{Mark, mark_of};
 use crate::selections::{Selection, selections_of};
 use crate::symbols::{Outline, symbols_of};
-use crate::under_cursor::value_at;
+use crate::under_cursor::{outer_start, value_at};
 use jx_complete::{Completed, complete};
 use jx_edit::{Document, DocumentFault, Encoding, Position};
-use jx_index::{names_are_refused_by_rows, read_rows, verdict_with_unique_names};
+use jx_index::{Row, names_are_refused_by_rows, read_rows, verdict_with_unique_names};
 use jx_run::{NameRule, NoPause, Settings, Verdict};
 use jx_wire::{Change, Place};
 use std::alloc::{AllocError, Global};
@@ -44,6 +44,17 @@ impl Model for Held {
     ghost view = { λ h. record { settings = h.settings; bytes = h.document.bytes; lost = h.lost } };
 
     ghost invariant = { λ h. IsHeld h.settings h.document.settings };
+}
+
+/// Where a value at an offset is shown from: from its name on, where the offset stands before it.
+fn shown_from(row: &Row, offset: usize) -> usize
+    ensures { result ≡ shown_from offset row.now }
+{
+    if offset < row.span.start {
+        outer_start(row)
+    } else {
+        row.span.start
+    }
 }
 
 /// A document of these bytes, whatever names its objects have, that finds positions by this encoding fast.
@@ -207,7 +218,7 @@ impl Held {
         self.hover_in(&completed, offset, encoding)
     }
 
-    /// The innermost value of a completed text at an offset.
+    /// The innermost value of a completed text at an offset, unless it is due at the fault.
     fn hover_in(
         &self,
         completed: &Completed,
@@ -223,8 +234,12 @@ impl Held {
             None => Ok(None),
             Some(value) => {
                 let kept = completed.kept;
+                if kept <= value.row.span.start {
+                    return Ok(None);
+                }
+                let from = shown_from(&value.row, offset);
                 let end = kept.min(value.row.span.end);
-                let start = self.document.position_of(value.row.span.start, encoding);
+                let start = self.document.position_of(from, encoding);
                 let end = self.document.position_of(end, encoding);
                 Ok(Some(Hover {
                     value,
@@ -371,11 +386,11 @@ impl Held {
         }
     }
 
-    /// The lines that are no texts, as JSON Lines has them, and how they are shown; none where the bytes are lost. Names may be
-    /// repeated, whatever the settings say. All bytes are read.
-    pub fn line_marks(&self, encoding: Encoding) -> Result<Option<Vec<LineMark>>, AllocError>
+    /// The lines that are no texts, as JSON Lines has them: how the first 1,000 are shown, and how many more there are; none where
+    /// the bytes are lost. Names may be repeated, whatever the settings say. All bytes are read.
+    pub fn line_marks(&self, encoding: Encoding) -> Result<Option<LineMarks>, AllocError>
         ensures lost { IfOk result (λ marks. is_some marks ≡ not self.now.lost) }
-        ensures marks { IfOk result (λ marks. IfSome marks (λ marks. AreLineMarks encoding self.now.settings self.now.bytes marks.items)) }
+        ensures marks { IfOk result (λ marks. IfSome marks (λ marks. AreLineMarks encoding self.now.settings self.now.bytes marks)) }
     {
         if self.lost {
             return Ok(None);

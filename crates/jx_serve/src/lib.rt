@@ -24,7 +24,7 @@ mod value_words;
 
 pub use held::Held;
 pub use hover::Hover;
-pub use line_mark::LineMark;
+pub use line_mark::{LineMark, LineMarks};
 pub use mark::{Mark, mark_of};
 pub use reply::{Code, Reply, Trouble};
 pub use reply_words::message_of;

@@ -1,8 +1,8 @@
 // Where the lines of a document that are no texts are shown.
-ghost use Rattle.std.specs.Prelude.{◌≡◌, ◌≤◌, ◌<◌, ◌+◌, ◌++◌, [], IfOk};
+ghost use Rattle.std.specs.Prelude.{◌≡◌, ◌≤◌, ◌<◌, ◌+◌, ◌++◌, ◌&&◌, [], false, take, IfOk};
 ghost use Rattle.jx_ndjson.specs.Reading.{listed};
 ghost use Rattle.jx_ndjson.specs.Tally.{HasTaken};
-ghost use Rattle.jx_serve.specs.LineMarks.{fault_in, AreLineMarks, AreMarksOf, IsAround, IsMarkOf, IsShownBy, IsWhole};
+ghost use Rattle.jx_serve.specs.LineMarks.{fault_in, is_blank, marked, most_marks, AreLineMarks, AreMarksOf, IsAround, IsMarkOf, IsShownBy, IsWhole};
 ghost use Rattle.jx_serve.specs.inside.BadLines.{AreBadLines};
 
 use crate::line_sentence::sentence_on_line;
@@ -23,6 +23,18 @@ pub struct LineMark {
     pub start: Position,
     pub end: Position,
 }
+
+/// The lines of a document that are no texts.
+#[derive(Debug, Drop)]
+pub struct LineMarks {
+    /// How the first 1,000 are shown, and of blank ones the first alone.
+    pub marks: Vec<LineMark>,
+    /// How many more there are.
+    pub more: usize,
+}
+
+/// How many lines are marked at most.
+const MOST: usize = 1_000;
 
 /// The tally of all lines of a document.
 fn tally_of(
@@ -162,17 +174,59 @@ fn marks_of(
     Ok(marks)
 }
 
-/// The lines of a document that are no texts by settings, and how they are shown. Names may be repeated, whatever the settings say.
-/// All bytes are read.
+/// Whether a line is blank.
+fn is_blank(verdict: LineVerdict) -> bool
+    ensures { result ≡ is_blank verdict }
+{
+    match verdict {
+        LineVerdict::Blank => true,
+        LineVerdict::Accepted | LineVerdict::Refused(_) | LineVerdict::MayBeCut => false,
+    }
+}
+
+/// Whether a line is blank, where a blank one may have been seen before.
+fn is_passed(seen: bool, verdict: LineVerdict) -> bool
+    ensures { result ≡ (seen && is_blank verdict) }
+{
+    seen && is_blank(verdict)
+}
+
+/// Lines without the blank ones behind the first blank one.
+fn marked(alloc: Global, lines: &[JudgedLine]) -> Result<Vec<JudgedLine>, AllocError>
+    ensures { IfOk result (λ kept. kept.items ≡ marked false lines.now) }
+{
+    let mut marked = Vec::new(alloc);
+    let mut seen = false;
+    for line in lines {
+        if is_passed(seen, line.verdict) {
+            continue;
+        }
+        marked.push(*line)?;
+        seen |= is_blank(line.verdict);
+    }
+    Ok(marked)
+}
+
+/// The first 1,000 lines.
+fn first_of(lines: &[JudgedLine]) -> &[JudgedLine]
+    ensures { result.now ≡ take most_marks lines.now }
+{
+    &lines[..MOST.min(lines.len())]
+}
+
+/// The lines of a document that are no texts by settings: how the first 1,000 are shown, and how many more there are. Names may be
+/// repeated, whatever the settings say. All bytes are read.
 pub(crate) fn line_marks_of(
     alloc: Global,
     document: &Document,
     settings: &Settings,
     encoding: Encoding,
-) -> Result<Vec<LineMark>, AllocError>
-    ensures { IfOk result (λ marks. AreLineMarks encoding settings.now document.now.bytes marks.items) }
+) -> Result<LineMarks, AllocError>
+    ensures { IfOk result (AreLineMarks encoding settings.now document.now.bytes) }
 {
     let bad = bad_lines(alloc, document, settings)?;
-    let marks = marks_of(alloc, document, settings, encoding, &bad)?;
-    Ok(marks)
+    let marked = marked(alloc, &bad)?;
+    let marks = marks_of(alloc, document, settings, encoding, first_of(&marked))?;
+    let more = bad.len().saturating_sub(marks.len());
+    Ok(LineMarks { marks, more })
 }

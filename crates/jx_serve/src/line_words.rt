@@ -1,9 +1,9 @@
 // The lines of a document that are no texts, in messages.
 ghost use Rattle.std.specs.Prelude.{◌≡◌, ◌++◌, IfOk, OnOk, string_bytes};
 ghost use Rattle.std.specs.List.{flat_map};
-ghost use Rattle.jx_serve.specs.Words.{line_diagnostic, line_diagnostics, next_diagnostic, published_lines, word_of_line, words_of_line_place};
+ghost use Rattle.jx_serve.specs.Words.{line_diagnostic, line_diagnostics, more_diagnostic, next_diagnostic, published_lines, word_of_line, words_of_line_place, words_of_more};
 
-use crate::line_mark::LineMark;
+use crate::line_mark::{LineMark, LineMarks};
 use crate::reply_words::{add_opening, add_told, code_of_refusal, words_of_place};
 use crate::selections::Extent;
 use jx_ndjson::LineVerdict;
@@ -56,14 +56,48 @@ fn add_others(alloc: Global, out: &mut Vec<u8>, marks: &[LineMark]) -> Result<()
     Ok(())
 }
 
-fn add_line_marks(alloc: Global, out: &mut Vec<u8>, marks: &[LineMark]) -> Result<(), AllocError>
-    ensures { OnOk result (out.new.items ≡ out.old.items ++ line_diagnostics marks.now) }
+/// How many more lines there are.
+fn words_of_more(alloc: Global, more: usize) -> Result<String, AllocError>
+    ensures { IfOk result (λ words. string_bytes words ≡ words_of_more more) }
+{
+    format!(in alloc; "more lines that are no JSON texts: {more}")
+}
+
+/// Adds a diagnostic behind others that tells how many more lines there are, if there are any, at the first of all.
+fn add_more(
+    alloc: Global,
+    out: &mut Vec<u8>,
+    first: &LineMark,
+    more: usize,
+) -> Result<(), AllocError>
+    ensures { OnOk result (out.new.items ≡ out.old.items ++ more_diagnostic first.now more) }
+{
+    if more == 0 {
+        return Ok(());
+    }
+    let extent = Extent {
+        start: first.start,
+        end: first.end,
+    };
+    let sentence = words_of_more(alloc, more)?;
+    out.extend_from_slice(b",")?;
+    add_told(alloc, out, extent, "more", sentence.as_bytes(), "")
+}
+
+fn add_line_marks(
+    alloc: Global,
+    out: &mut Vec<u8>,
+    marks: &[LineMark],
+    more: usize,
+) -> Result<(), AllocError>
+    ensures { OnOk result (out.new.items ≡ out.old.items ++ line_diagnostics marks.now more) }
 {
     match marks.split_first() {
         None => Ok(()),
         Some((first, others)) => {
             add_line_mark(alloc, out, first)?;
-            add_others(alloc, out, others)
+            add_others(alloc, out, others)?;
+            add_more(alloc, out, first, more)
         }
     }
 }
@@ -74,11 +108,11 @@ pub(crate) fn add_published_lines(
     out: &mut Vec<u8>,
     uri: &[u8],
     version: &Option<Vec<u8>>,
-    marks: &[LineMark],
+    marks: &LineMarks,
 ) -> Result<(), AllocError>
     ensures { OnOk result (out.new.items ≡ out.old.items ++ published_lines uri.now version.now marks.now) }
 {
     add_opening(out, uri, version)?;
-    add_line_marks(alloc, out, marks)?;
+    add_line_marks(alloc, out, &marks.marks, marks.more)?;
     out.extend_from_slice(b"]}}")
 }

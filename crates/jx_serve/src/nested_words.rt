@@ -39,9 +39,9 @@ fn begin_symbol(
         _ => {}
     }
     add_named(alloc, out, text, &symbol.row)?;
-    add_range(alloc, out, symbol.start, symbol.end)?;
+    add_range(alloc, out, symbol.outer, symbol.end)?;
     out.extend_from_slice(b",\"selectionRange\":")?;
-    add_ends(alloc, out, symbol.start, symbol.end)?;
+    add_ends(alloc, out, symbol.outer, symbol.label)?;
     out.extend_from_slice(b",\"children\":[")
 }
 

@@ -1,6 +1,6 @@
 // What the server tells the client.
 use crate::hover::Hover;
-use crate::line_mark::LineMark;
+use crate::line_mark::LineMarks;
 use crate::mark::Mark;
 use crate::selections::Selection;
 use crate::symbols::Outline;
@@ -83,11 +83,11 @@ pub enum Reply {
         version: Option<Vec<u8>>,
         mark: Option<Mark>,
     },
-    /// The lines of a document of this version that are no texts. Where each is one there is no mark.
+    /// The lines of a document of this version that are no texts. Where each line is one there is no mark.
     PublishedLines {
         uri: Vec<u8>,
         version: Option<Vec<u8>>,
-        marks: Vec<LineMark>,
+        marks: LineMarks,
     },
     /// That a document is closed: its mark is taken away.
     Closed {

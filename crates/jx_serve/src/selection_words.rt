@@ -4,9 +4,6 @@ use crate::value_words::{add_range, begin_list};
 use jx_edit::Position;
 use std::alloc::{AllocError, Global};
 
-/// How many ranges are shown around a place at most. A message has a container for each.
-const LEVELS: usize = 200;
-
 /// Adds a range of a `SelectionRange`, as the parent of the one before it or as the first.
 fn add_extent(
     alloc: Global,
@@ -32,14 +29,12 @@ fn close(out: &mut Vec<u8>, count: usize) -> Result<(), AllocError> {
 
 /// Adds the ranges around a place, the innermost first.
 fn add_around(alloc: Global, out: &mut Vec<u8>, around: &[Extent]) -> Result<(), AllocError> {
-    let mut count = 0;
+    let mut is_first = true;
     for extent in around.iter().rev() {
-        if count < LEVELS {
-            add_extent(alloc, out, count == 0, extent.start, extent.end)?;
-            count += 1;
-        }
+        add_extent(alloc, out, is_first, extent.start, extent.end)?;
+        is_first = false;
     }
-    close(out, count)
+    close(out, around.len())
 }
 
 /// Adds a `SelectionRange`: the ranges around a place, or an empty one there.
@@ -55,7 +50,7 @@ fn add_selection(
     add_around(alloc, out, &selection.around)
 }
 
-/// Adds the answer that tells what stands around places: for each the 200 innermost ranges.
+/// Adds the answer that tells what stands around places.
 pub(crate) fn add_selected(
     alloc: Global,
     out: &mut Vec<u8>,

@@ -1,7 +1,7 @@
 // The values and members around places of a document.
 ghost use Rattle.std.specs.Prelude.{◌≡◌, ◌++◌, Some, IfOk, OnOk, map};
 ghost use Rattle.std.specs.List.{flat_map};
-ghost use Rattle.jx_serve.specs.Selections.{around, chain_before, extent_of, held_span, is_held, spans_at, IsSelection, AreSelectionsOf};
+ghost use Rattle.jx_serve.specs.Selections.{around, chain_before, extent_of, held_span, innermost, is_held, spans_at, IsSelection, AreSelectionsOf};
 
 use crate::held::position_of;
 use jx_edit::{Document, Encoding, Position};
@@ -17,7 +17,10 @@ pub struct Extent {
     pub end: Position,
 }
 
-/// A place of a document, and the values, names and members that hold it, each with those in it behind it.
+/// How many stretches are told around a place at most. A message has a container for each.
+const LEVELS: usize = 200;
+
+/// A place of a document, and the innermost values, names and members that hold it, each with those in it behind it.
 #[derive(Debug, Drop)]
 pub struct Selection {
     pub place: Position,
@@ -122,6 +125,13 @@ fn extents_of(
     Ok(extents)
 }
 
+/// The last 200 spans of a chain, which stand in all others.
+fn innermost(chain: &[Span]) -> &[Span]
+    ensures { result.now ≡ innermost chain.now }
+{
+    &chain[chain.len().saturating_sub(LEVELS)..]
+}
+
 /// What holds a place of a document.
 fn selection_at(
     alloc: Global,
@@ -135,7 +145,8 @@ fn selection_at(
 {
     let offset = document.offset_of(position_of(place), encoding);
     let chain = chain_before(alloc, rows, kept, offset)?;
-    let around = extents_of(alloc, document, kept, &chain, encoding)?;
+    let inner = innermost(&chain);
+    let around = extents_of(alloc, document, kept, inner, encoding)?;
     let place = document.position_of(offset, encoding);
     Ok(Selection { place, around })
 }

@@ -1,19 +1,25 @@
 // The values of a document, for an outline.
 ghost use Rattle.std.specs.Prelude.{◌≡◌, ◌≤◌, ◌<◌, nat_le, IfOk, IfSome, length, map, position, take};
 ghost use Rattle.jx_index.specs.declared.row.Row.{Row};
-ghost use Rattle.jx_serve.specs.Values.{most_symbols, rows_before, symbol_of};
+ghost use Rattle.jx_serve.specs.Values.{label_of, most_symbols, rows_before, symbol_of};
 
+use crate::under_cursor::outer_start;
 use jx_edit::{Document, Encoding, Position};
 use jx_index::Row;
+use jx_lex::Span;
 use std::alloc::{AllocError, Global};
 
 /// How many values are listed at most.
 const MOST: usize = 10_000;
 
-/// A value, and the positions of both its ends in a document.
+/// A value, and its positions in a document.
 #[derive(Clone, Copy, Debug)]
 pub struct Symbol {
     pub row: Row,
+    /// Where its member begins, at the name, or the value that has none.
+    pub outer: Position,
+    /// Where its name ends, or the value that has none.
+    pub label: Position,
     pub start: Position,
     pub end: Position,
 }
@@ -26,12 +32,24 @@ pub struct Outline {
     pub symbols: Vec<Symbol>,
 }
 
+/// The name of a row, or its value where it has none.
+fn label_of(row: &Row) -> Span
+    ensures { result ≡ label_of row.now.name row.now.span }
+{
+    match row.name {
+        Some(name) => name,
+        None => row.span,
+    }
+}
+
 /// A value with its positions, as far as so many bytes go.
 fn symbol_of(document: &Document, kept: usize, row: &Row, encoding: Encoding) -> Symbol
     ensures { result ≡ symbol_of encoding document.now.bytes kept row.now }
 {
     Symbol {
         row: *row,
+        outer: document.position_of(outer_start(row), encoding),
+        label: document.position_of(kept.min(label_of(row).end), encoding),
         start: document.position_of(row.span.start, encoding),
         end: document.position_of(kept.min(row.span.end), encoding),
     }

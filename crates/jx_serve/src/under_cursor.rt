@@ -1,6 +1,6 @@
 // The innermost value at an offset of a text.
 ghost use Rattle.std.specs.Prelude.{◌≡◌, ◌<◌, None, IfOk, IfSome, length};
-ghost use Rattle.jx_serve.specs.Values.{holds, IsFoundAt, IsInNone, IsInnermost};
+ghost use Rattle.jx_serve.specs.Values.{holds, outer_start, IsFoundAt, IsInNone, IsInnermost};
 
 use crate::pointer_to::pointer_to;
 use jx_index::{Row, TextAnswer, indexes_stand_behind_fronts};
@@ -15,14 +15,24 @@ pub struct ValueAt {
     pub pointer: Option<Vec<u8>>,
 }
 
-/// Whether the span of a value holds an offset.
+/// Where a member begins, at its name, or a value that has none.
+pub(crate) fn outer_start(row: &Row) -> usize
+    ensures { result ≡ outer_start row.now }
+{
+    match row.name {
+        Some(name) => name.start,
+        None => row.span.start,
+    }
+}
+
+/// Whether a value, or the member that it is of, holds an offset.
 fn holds(row: &Row, offset: usize) -> bool
     ensures { result ≡ holds offset row.now }
 {
-    row.span.start <= offset && offset < row.span.end
+    outer_start(row) <= offset && offset < row.span.end
 }
 
-/// The number of the innermost value whose span holds an offset, if there is one.
+/// The number of the innermost value that holds an offset, or whose member does, if there is one.
 fn innermost(rows: &[Row], offset: usize) -> Option<usize>
     ensures some { IfSome result (IsInnermost rows.now offset) }
     ensures within { IfSome result (λ number. number < length rows.now) }
@@ -37,8 +47,8 @@ fn innermost(rows: &[Row], offset: usize) -> Option<usize>
     last
 }
 
-/// Reads a JSON text (RFC 8259) by settings, and finds the innermost value whose span holds an offset. None where the text is
-/// refused, or no span holds it. `Err` where memory is refused.
+/// Reads a JSON text (RFC 8259) by settings, and finds the innermost value that holds an offset. A member's value holds those of its
+/// name too, and those between both. None where the text is refused, or no value holds it. `Err` where memory is refused.
 ///
 /// The value has no pointer where an object on the way to it repeats the name that leads on, and where such a name has half of
 /// a surrogate pair without the other half.

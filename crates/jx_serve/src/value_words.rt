@@ -8,8 +8,9 @@ use crate::symbols::{Outline, Symbol};
 use jx_edit::Position;
 use jx_index::Row;
 use jx_lex::Kind;
-use jx_wire::quoted;
+use jx_wire::{StringFault, quoted, unescaped};
 use std::alloc::{AllocError, Global};
+use std::str;
 
 pub(crate) fn add_all(out: &mut Vec<u8>, parts: &[&[u8]]) -> Result<(), AllocError>
     ensures { OnOk result (out.new.items ≡ out.old.items ++ flat_map (λ part. part.now) parts.now) }
@@ -137,14 +138,39 @@ fn symbol_kind(kind: Kind) -> &'static [u8] {
     }
 }
 
-/// Adds the name of a value as a string: that of a member as the text spells it, or the place in an array.
+/// Whether a text has no other characters than those that editors count as white space.
+fn is_blank(text: &[u8]) -> bool {
+    let Ok(text) = str::from_utf8(text) else {
+        return false;
+    };
+    for character in text.chars() {
+        if !character.is_whitespace() && character != '\u{feff}' {
+            return false;
+        }
+    }
+    true
+}
+
+/// The name of a member as a string: as the text spells it. Editors refuse a name that is blank, so its quotation marks are shown
+/// too. Some refuse half of a surrogate pair, so the spelling is shown where it stands alone.
+fn shown_name(alloc: Global, spelt: &[u8]) -> Result<Vec<u8>, AllocError> {
+    match unescaped(alloc, spelt) {
+        Ok(name) if is_blank(&name) => quoted(alloc, spelt),
+        Ok(_) => Vec::from_slice(alloc, spelt),
+        Err(StringFault::Memory) => Err(AllocError),
+        Err(StringFault::NoString | StringFault::LoneSurrogate) => {
+            let inside = spelt.get(1..spelt.len().saturating_sub(1));
+            quoted(alloc, inside.unwrap_or(spelt))
+        }
+    }
+}
+
+/// Adds the name of a value as a string: that of a member, or the place in an array.
 fn add_name(alloc: Global, out: &mut Vec<u8>, text: &[u8], row: &Row) -> Result<(), AllocError> {
     if let Some(span) = row.name {
-        return match text.get(span.start..span.end).unwrap_or(&[]) {
-            // Editors refuse an empty name.
-            [] | b"\"\"" => out.extend_from_slice(b"\"\\\"\\\"\""),
-            name => out.extend_from_slice(name),
-        };
+        let spelt = text.get(span.start..span.end).unwrap_or(&[]);
+        let name = shown_name(alloc, spelt)?;
+        return out.extend_from_slice(&name);
     }
     if row.parent.is_none() {
         return out.extend_from_slice(b"\"root\"");
@@ -176,7 +202,7 @@ fn add_symbol(
 ) -> Result<(), AllocError> {
     add_named(alloc, out, text, &symbol.row)?;
     add_all(out, &[b"\"location\":{\"uri\":", uri, b","])?;
-    add_range(alloc, out, symbol.start, symbol.end)?;
+    add_range(alloc, out, symbol.outer, symbol.end)?;
     out.extend_from_slice(b"}}")
 }
 

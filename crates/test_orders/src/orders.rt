@@ -1,7 +1,7 @@
 // All that an order asks for, in one line.
 use jx_command::{
     ByLine, EachOrder, Input, Inputs, LinesOrder, LiveOrder, Order, PartsOrder, PartsStep, Request,
-    SaveOrder, ShowProgress, SplitOrder, Told, ValuesOrder,
+    SaveOrder, ShowProgress, SplitOrder, TellAccepted, Told, ValuesOrder,
 };
 use jx_crew::Workers;
 use jx_run::Settings;
@@ -133,6 +133,7 @@ fn push_lines(out: &mut Out, order: &LinesOrder) {
         out.push_str(", quiet");
     }
     push_inputs(out, &order.inputs);
+    push_told(out, order.told);
 }
 
 fn push_live(out: &mut Out, order: &LiveOrder) {
@@ -198,6 +199,13 @@ fn push_told(out: &mut Out, told: Told) {
         Told::Refused => out.push_str("; refused ones"),
         Told::Marks => out.push_str("; marks"),
         Told::Objects => out.push_str("; objects"),
-        Told::Explained(color) => out.put(format_args!("; explained, color {color:?}")),
+        Told::Explained(color, accepted) => {
+            out.put(format_args!("; explained, color {color:?}"));
+            out.push_str(match accepted {
+                TellAccepted::Several => "",
+                TellAccepted::Always => ", accepted ones",
+                TellAccepted::Never => ", refused ones",
+            });
+        }
     }
 }

@@ -402,27 +402,25 @@ impl OpenedIndex {
         given.status
     }
 
-    /// Ends the look-up, unless it needs more.
+    /// Ends the look-up that goes on, unless it needs more.
     pub fn answers(&mut self, answers: &mut [JxAnswer]) -> u32
         ensures answers { result ≡ OK → AreAnswersIn self.old answers.old answers.new }
         ensures damaged { result ≡ DAMAGED → IsOfNoText self.old }
         ensures status { IsALookUp self.old → needed self.old ≡ None → (result ≡ OK) ⊎ ((result ≡ DAMAGED) ⊎ (result ≡ NO_MEMORY)) }
-        ensures more { (span : Span) → needed self.old ≡ Some span → result ≡ MORE_NEEDED }
-        ensures other { (IsALookUp self.old → ⊥) → needed self.old ≡ None → result ≡ NOT_BEGUN }
+        ensures more { (span : Span) → IsALookUp self.old → needed self.old ≡ Some span → result ≡ MORE_NEEDED }
+        ensures other { (IsALookUp self.old → ⊥) → result ≡ NOT_BEGUN }
         ensures same { (result ≡ MORE_NEEDED) ⊎ (result ≡ NOT_BEGUN) → self.new ≡ self.old }
         ensures ended { (result ≡ MORE_NEEDED → ⊥) → (result ≡ NOT_BEGUN → ⊥) → self.new ≡ idle self.old }
         ensures unchanged { (result ≡ OK → ⊥) → answers.new ≡ answers.old }
     {
-        if self.needs().is_some() {
-            return MORE_NEEDED;
-        }
         match replace(&mut self.work, IndexWork::Nothing) {
-            IndexWork::Seeking { pointers, walk } => answers_of(
-                &self.saved,
-                pointers,
-                walk,
-                answers,
-            ),
+            IndexWork::Seeking { pointers, walk } => {
+                if walk.needs(&self.saved.index).is_some() {
+                    self.work = IndexWork::Seeking { pointers, walk };
+                    return MORE_NEEDED;
+                }
+                answers_of(&self.saved, pointers, walk, answers)
+            }
             other => {
                 self.work = other;
                 NOT_BEGUN
@@ -430,23 +428,26 @@ impl OpenedIndex {
         }
     }
 
-    /// Ends the split, unless it needs more.
+    /// Ends the split that goes on, unless it needs more.
     pub fn parts(&mut self, parts: &mut [JxPart], count: &mut usize) -> u32
         ensures parts { result ≡ OK → ArePartsIn self.old parts.old parts.new count.new }
         ensures damaged { result ≡ DAMAGED → HasNoSuchContainer self.old }
         ensures status { IsASplit self.old → needed self.old ≡ None → (result ≡ OK) ⊎ ((result ≡ DAMAGED) ⊎ (result ≡ NO_MEMORY)) }
-        ensures more { (span : Span) → needed self.old ≡ Some span → result ≡ MORE_NEEDED }
-        ensures other { (IsASplit self.old → ⊥) → needed self.old ≡ None → result ≡ NOT_BEGUN }
+        ensures more { (span : Span) → IsASplit self.old → needed self.old ≡ Some span → result ≡ MORE_NEEDED }
+        ensures other { (IsASplit self.old → ⊥) → result ≡ NOT_BEGUN }
         ensures same { (result ≡ MORE_NEEDED) ⊎ (result ≡ NOT_BEGUN) → self.new ≡ self.old }
         ensures ended { (result ≡ MORE_NEEDED → ⊥) → (result ≡ NOT_BEGUN → ⊥) → self.new ≡ idle self.old }
         ensures unchanged_parts { (result ≡ OK → ⊥) → parts.new ≡ parts.old }
         ensures unchanged_count { (result ≡ OK → ⊥) → count.new ≡ count.old }
     {
-        if self.needs().is_some() {
-            return MORE_NEEDED;
-        }
         match replace(&mut self.work, IndexWork::Nothing) {
-            IndexWork::Splitting(split) => parts_of(&self.saved.index, split, parts, count),
+            IndexWork::Splitting(split) => {
+                if split.needs(&self.saved.index).is_some() {
+                    self.work = IndexWork::Splitting(split);
+                    return MORE_NEEDED;
+                }
+                parts_of(&self.saved.index, split, parts, count)
+            }
             other => {
                 self.work = other;
                 NOT_BEGUN

@@ -182,8 +182,8 @@ pub extern "C" fn jx_saved_answers_non_null(
     ensures answers { (s : OpenedIndex) → saved.old.held ≡ Some s → result ≡ OK → AreAnswersIn s answers.old answers.new }
     ensures damaged { (s : OpenedIndex) → saved.old.held ≡ Some s → result ≡ DAMAGED → IsOfNoText s }
     ensures status { (s : OpenedIndex) → saved.old.held ≡ Some s → IsALookUp s → needed s ≡ None → (result ≡ OK) ⊎ ((result ≡ DAMAGED) ⊎ (result ≡ NO_MEMORY)) }
-    ensures more { (s : OpenedIndex) (span : Span) → saved.old.held ≡ Some s → needed s ≡ Some span → result ≡ MORE_NEEDED }
-    ensures other { (s : OpenedIndex) → saved.old.held ≡ Some s → (IsALookUp s → ⊥) → needed s ≡ None → result ≡ NOT_BEGUN }
+    ensures more { (s : OpenedIndex) (span : Span) → saved.old.held ≡ Some s → IsALookUp s → needed s ≡ Some span → result ≡ MORE_NEEDED }
+    ensures other { (s : OpenedIndex) → saved.old.held ≡ Some s → (IsALookUp s → ⊥) → result ≡ NOT_BEGUN }
     ensures ended { (s : OpenedIndex) → saved.old.held ≡ Some s → (result ≡ OK) ⊎ ((result ≡ DAMAGED) ⊎ (result ≡ NO_MEMORY)) → saved.new.held ≡ Some (idle s) }
     ensures same { (result ≡ MORE_NEEDED) ⊎ ((result ≡ NOT_BEGUN) ⊎ (result ≡ NO_SAVED)) → saved.new.held ≡ saved.old.held }
     ensures unchanged { (result ≡ OK → ⊥) → answers.new ≡ answers.old }
@@ -208,8 +208,8 @@ pub extern "C" fn jx_saved_parts_non_null(
     ensures parts { (s : OpenedIndex) → saved.old.held ≡ Some s → result ≡ OK → ArePartsIn s parts.old parts.new count.new }
     ensures damaged { (s : OpenedIndex) → saved.old.held ≡ Some s → result ≡ DAMAGED → HasNoSuchContainer s }
     ensures status { (s : OpenedIndex) → saved.old.held ≡ Some s → IsASplit s → needed s ≡ None → (result ≡ OK) ⊎ ((result ≡ DAMAGED) ⊎ (result ≡ NO_MEMORY)) }
-    ensures more { (s : OpenedIndex) (span : Span) → saved.old.held ≡ Some s → needed s ≡ Some span → result ≡ MORE_NEEDED }
-    ensures other { (s : OpenedIndex) → saved.old.held ≡ Some s → (IsASplit s → ⊥) → needed s ≡ None → result ≡ NOT_BEGUN }
+    ensures more { (s : OpenedIndex) (span : Span) → saved.old.held ≡ Some s → IsASplit s → needed s ≡ Some span → result ≡ MORE_NEEDED }
+    ensures other { (s : OpenedIndex) → saved.old.held ≡ Some s → (IsASplit s → ⊥) → result ≡ NOT_BEGUN }
     ensures ended { (s : OpenedIndex) → saved.old.held ≡ Some s → (result ≡ OK) ⊎ ((result ≡ DAMAGED) ⊎ (result ≡ NO_MEMORY)) → saved.new.held ≡ Some (idle s) }
     ensures same { (result ≡ MORE_NEEDED) ⊎ ((result ≡ NOT_BEGUN) ⊎ (result ≡ NO_SAVED)) → saved.new.held ≡ saved.old.held }
     ensures unchanged_parts { (result ≡ OK → ⊥) → parts.new ≡ parts.old }

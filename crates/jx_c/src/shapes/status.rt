@@ -92,3 +92,9 @@ pub const MORE_NEEDED: u32 = 31;
 
 /// No look-up and no split was begun, or the text has ended.
 pub const NOT_BEGUN: u32 = 32;
+
+/// The struct holds no shelf. 33 is for what fails in the C header.
+pub const NO_SHELF: u32 = 34;
+
+/// Another index stands on the shelf.
+pub const TAKEN: u32 = 35;

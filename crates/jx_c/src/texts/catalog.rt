@@ -32,4 +32,11 @@ impl Catalog {
     {
         &self.index
     }
+
+    /// Gives the index up.
+    pub fn into_index(self) -> Indexed<'static>
+        ensures { result ≡ self }
+    {
+        self.index
+    }
 }

@@ -128,7 +128,7 @@ fn look_up_in(index: &Indexed, pointer: &[u8]) -> LookUp
 }
 
 /// The same as C sees it.
-fn answer_in(index: &Indexed, pointer: &[u8]) -> JxAnswer
+pub fn answer_in(index: &Indexed, pointer: &[u8]) -> JxAnswer
     ensures { IsAnswerIn index.now pointer.now result }
 {
     shown_look_up(look_up_in(index, pointer))
@@ -156,7 +156,7 @@ pub extern "C" fn jx_index_find_non_null(
 }
 
 /// The row with a number, if there is one.
-fn row_at(index: &Indexed, number: usize) -> Option<JxRow>
+pub fn row_at(index: &Indexed, number: usize) -> Option<JxRow>
     ensures { result ≡ row_at index.now number }
 {
     match index.rows().get(number) {

@@ -1,15 +1,15 @@
 // Part of a document, with what reading it comes to.
-ghost use Rattle.std.specs.Prelude.{◌≡◌, ◌≤◌, ◌<◌, IfOk, IfSome, length, take, true};
+ghost use Rattle.std.specs.Prelude.{◌≡◌, ◌≤◌, ◌<◌, ◌+◌, ◌*◌, ◌^◌, IfOk, IfSome, length, take, true};
 ghost use Rattle.jx_edit.specs.inside.Chunks.{open_ended, text_of, AreFresh, IsFresh, IsRunOver};
 ghost use Rattle.jx_edit.specs.inside.Leads.{reading_in, IsLedWithin};
 ghost use Rattle.jx_edit.specs.inside.Places.{read_on};
-ghost use Rattle.jx_edit.specs.Positions.{first, position_behind};
+ghost use Rattle.jx_edit.specs.Positions.{first, position_behind, reach};
 ghost use Rattle.jx_run.specs.OutcomeRun.{IsOutcomeRun};
 
 use crate::chunking::filled::Filled;
 use crate::positions::encoding::Encoding;
 use crate::positions::moves::{Moves, kept_by};
-use crate::positions::position::{Position, behind};
+use crate::positions::position::{Position, Reached, behind, reach};
 use crate::positions::steps::Steps;
 use crate::reading::led::{Led, follow_bytes, follow_run};
 use crate::reading::nesting::nest_deeply;
@@ -117,6 +117,20 @@ impl Chunk {
         match &self.steps {
             Some(steps) if steps.encoding == encoding => steps.position_behind(&self.bytes, at),
             _ => behind(&self.bytes[..at], encoding),
+        }
+    }
+
+    /// How many of its bytes, which stand at one position, come before the next position is behind another.
+    pub(crate) fn reach(&self, from: Position, to: Position, encoding: Encoding) -> Reached
+        requires lines { from.line + length self.now.bytes < 2 ^ 64 }
+        requires characters { from.character + 2 * length self.now.bytes < 2 ^ 64 }
+        ensures count { result.count ≡ reach encoding from to self.now.bytes }
+        ensures within { result.count ≤ length self.now.bytes }
+        ensures position { result.position ≡ position_behind encoding from (take result.count self.now.bytes) }
+    {
+        match &self.steps {
+            Some(steps) if steps.encoding == encoding => steps.reach(&self.bytes, from, to),
+            _ => reach(&self.bytes, from, to, encoding),
         }
     }
 

@@ -5,7 +5,7 @@ ghost use Rattle.jx_edit.specs.Positions.{position_behind, reach};
 
 use crate::chunking::chunk::Chunk;
 use crate::positions::encoding::Encoding;
-use crate::positions::position::{Position, Reached, reach};
+use crate::positions::position::{Position, Reached};
 
 /// The position behind so many bytes of chunks of which the first stands at one, or behind all of them.
 pub(crate) fn position_in(
@@ -52,7 +52,7 @@ pub(crate) fn reach_in(
         let chunk = &chunks[place];
         let next = position.joined(chunk.moves(encoding));
         if next.is_behind(to) {
-            let here = reach(chunk.bytes(), position, to, encoding);
+            let here = chunk.reach(position, to, encoding);
             return Reached {
                 count: before + here.count,
                 position: here.position,

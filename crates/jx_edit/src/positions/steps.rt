@@ -1,10 +1,11 @@
 // Positions at even steps of bytes, so that no more than one step is counted to find one.
-ghost use Rattle.std.specs.Prelude.{◌≡◌, ◌≤◌, IfOk, IfSome, length, take};
+ghost use Rattle.std.specs.Prelude.{◌≡◌, ◌≤◌, ◌<◌, ◌+◌, ◌*◌, ◌^◌, IfOk, IfSome, length, take};
 ghost use Rattle.jx_edit.specs.inside.Moves.{position_of, AreSteps};
-ghost use Rattle.jx_edit.specs.Positions.{first, position_behind};
+ghost use Rattle.jx_edit.specs.inside.Nearing.{IsBefore};
+ghost use Rattle.jx_edit.specs.Positions.{first, position_behind, reach};
 
 use crate::positions::encoding::Encoding;
-use crate::positions::position::{Position, behind};
+use crate::positions::position::{Position, Reached, behind, reach};
 use std::alloc::{AllocError, Global};
 
 /// How many bytes a step has. The fewer there are, the fewer are counted to find a position, and the more positions are kept.
@@ -81,5 +82,45 @@ impl Steps {
                 .joined(behind(&bytes[start..at], self.encoding));
         }
         behind(&bytes[..at], self.encoding)
+    }
+
+    /// The last step that is not behind a position, where the bytes whose steps these are stand at another one; their start where
+    /// none is.
+    fn last_before(&self, bytes: &[u8], from: Position, to: Position) -> Reached
+        requires steps { AreSteps bytes.now self.now }
+        requires lines { from.line + length bytes.now < 2 ^ 64 }
+        requires characters { from.character + 2 * length bytes.now < 2 ^ 64 }
+        ensures { IsBefore self.now.encoding from to bytes.now result }
+    {
+        let mut last = Reached {
+            count: 0,
+            position: from,
+        };
+        for number in 0..self.steps.len() {
+            let position = from.joined(self.steps[number].position());
+            if position.is_behind(to) {
+                return last;
+            }
+            let count = number.saturating_mul(STEP).min(bytes.len());
+            last = Reached { count, position };
+        }
+        last
+    }
+
+    /// How many of the bytes whose steps these are, which stand at one position, come before the next position is behind another.
+    pub(crate) fn reach(&self, bytes: &[u8], from: Position, to: Position) -> Reached
+        requires steps { AreSteps bytes.now self.now }
+        requires lines { from.line + length bytes.now < 2 ^ 64 }
+        requires characters { from.character + 2 * length bytes.now < 2 ^ 64 }
+        ensures count { result.count ≡ reach self.now.encoding from to bytes.now }
+        ensures within { result.count ≤ length bytes.now }
+        ensures position { result.position ≡ position_behind self.now.encoding from (take result.count bytes.now) }
+    {
+        let last = self.last_before(bytes, from, to);
+        let near = reach(&bytes[last.count..], last.position, to, self.encoding);
+        Reached {
+            count: last.count + near.count,
+            position: near.position,
+        }
     }
 }

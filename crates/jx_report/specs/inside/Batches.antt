@@ -56,3 +56,11 @@ pub record IsPending (IsTaken : List ℕ → Type 0) (unread left : Option (List
   pub between : Option (List ℕ)
   pub before : Consumes unread between text
   pub after : Consumes between left pending
+
+-- ---- what was read on one thread
+
+-- what the bytes come to that were read so far
+pub record IsTakenIn (task : Task) (settings : Settings) (unread left : Option (List ℕ)) (reading : Reading) : Type 0 where
+  pub text : List ℕ
+  pub read : Consumes unread left text
+  pub taken : IsReadingOf task settings text reading

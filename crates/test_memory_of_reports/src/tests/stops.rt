@@ -126,8 +126,8 @@ const BATCH: usize = 8;
 
 /// Checks a text whose workers stop in any batch. The first batch of each text meets a stop. What is behind a fault asks no
 /// gate, so that only an accepted text has more events than one batch. One worker asks as it begins each piece. Of several, the
-/// first asks before and behind the front, and all of them ask after each step with a piece. Where names have to be unique, no
-/// gate is asked.
+/// first asks before and behind the front, and all of them ask after each step with a piece. Where names have to be unique, one
+/// thread asks before each batch.
 fn check_stops<R: Abort + Threads + Wait + Sync>(
     rt: &R,
     alloc: Global,
@@ -146,7 +146,7 @@ fn check_stops<R: Abort + Threads + Wait + Sync>(
         2 * u64::from(count)
     };
     assert!(rt; batches > 0, "{:?} meets no stop", case.0);
-    assert!(rt; by_names == 0, "{:?} asks by names", case.0);
+    assert!(rt; by_names > 0, "{:?} meets no stop by names", case.0);
     if case.2 == Exit::Good {
         assert!(rt; batches > of_one_batch);
     }

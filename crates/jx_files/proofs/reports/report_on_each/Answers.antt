@@ -7,7 +7,7 @@ use Rattle.jx_files.proofs.reports.report_on_each.Goals as goal
 
 pub returns-in_err-next-clause-err : goal.returns-in_err-next-clause-err
 returns-in_err-next-clause-err g c =
-    let ways = ways_of (g.O.Opener.opens c.args.opener.now) (g.O.Opener.why c.args.opener.now) g.S.Source.remaining g.S.Source.has_failed in
+    let ways = ways_of (g.O.Opener.opens c.args.opener.now) (g.O.Opener.why c.args.opener.now) (g.O.Opener.shares c.args.opener.now) (g.O.Opener.may_fail c.args.opener.now) g.S.Source.remaining g.S.Source.has_failed in
     let words = c.args.words.now in
     let l = c.loop-number in
     let there = c.word_at-word.ensures in
@@ -24,7 +24,7 @@ loop-number-init g c = record {
 
 pub loop-number-preserved : goal.loop-number-preserved
 loop-number-preserved g c =
-    let ways = ways_of (g.O.Opener.opens c.args.opener.now) (g.O.Opener.why c.args.opener.now) g.S.Source.remaining g.S.Source.has_failed in
+    let ways = ways_of (g.O.Opener.opens c.args.opener.now) (g.O.Opener.why c.args.opener.now) (g.O.Opener.shares c.args.opener.now) (g.O.Opener.may_fail c.args.opener.now) g.S.Source.remaining g.S.Source.has_failed in
     let words = c.args.words.now in
     let l = c.loop-number in
     let there = c.word_at-word.ensures in
@@ -38,7 +38,7 @@ loop-number-preserved g c =
 
 pub returns-clause-ok : goal.returns-clause-ok
 returns-clause-ok g c =
-    let ways = ways_of (g.O.Opener.opens c.args.opener.now) (g.O.Opener.why c.args.opener.now) g.S.Source.remaining g.S.Source.has_failed in
+    let ways = ways_of (g.O.Opener.opens c.args.opener.now) (g.O.Opener.why c.args.opener.now) (g.O.Opener.shares c.args.opener.now) (g.O.Opener.may_fail c.args.opener.now) g.S.Source.remaining g.S.Source.has_failed in
     let words = c.args.words.now in
     let l = c.loop-number in
     subst (λ (ws : List (List ℕ)). ReportsEach ways c.args.command.now ws (g.W.Sink.contents c.args.writer.now) (g.W.Sink.contents l.writer) (g.E.Sink.has_failed l.errors) (g.E.Sink.contents c.args.errors.now) (g.E.Sink.contents l.errors) l.status)

@@ -1,0 +1,83 @@
+// Regular files, which workers read at offsets, each for itself.
+ghost use Rattle.std.specs.Prelude.{◌≡◌, ◌≤◌, false, IfErr};
+ghost use Rattle.jx_parallel_report.specs.ReportsAt.{IsShared};
+
+use crate::fault::Fault;
+use crate::input::{Reader, file_in, told_of};
+use crate::output::{Output, Writer, fault_of_write};
+use jx_command::Input;
+use jx_ends::{End, ReportFault};
+use jx_files::{FileFault, Reason, Status};
+use jx_parallel::SharedAt;
+use jx_parallel_report::{ReportAtFault, report_at};
+use jx_task::Command;
+use std::fs::File;
+use std::os::unix::fs::FileExt;
+use std::sync::Wait;
+use std::thread::Threads;
+
+/// A regular file that is open.
+#[derive(Drop)]
+pub struct SharedFile {
+    file: File,
+}
+
+impl SharedAt for SharedFile {
+    ghost use Rattle.std.specs.Prelude.{None, ⊤};
+
+    type Fault = Reason;
+
+    // Nothing is known of the bytes of a file, nor of why the system does not read them.
+    ghost content = { λ _. None };
+
+    ghost may_fail = { λ _ _. ⊤ };
+
+    fn read_at(&self, buf: &mut [u8], offset: usize) -> Result<usize, Reason> {
+        match self.file.read_at(buf, offset as u64) {
+            Ok(count) => Ok(count),
+            Err(error) => Err(Reason::of(&error)),
+        }
+    }
+}
+
+/// What a reader reads from, where it is a regular file that nobody watches; else the reader.
+pub fn share<'r>(reader: Reader<'r>) -> Result<SharedFile, Reader<'r>>
+    ensures { IfErr result (λ back. back ≡ reader.entry) }
+{
+    match file_in(reader) {
+        Ok(file) => Ok(SharedFile { file }),
+        Err(reader) => Err(reader),
+    }
+}
+
+/// What the fault of a report on a file comes to.
+fn fault_of(
+    rt: &HostRuntime,
+    input: Input<'_>,
+    writer: &Writer,
+    fault: ReportAtFault<Reason>,
+) -> Fault {
+    match fault {
+        ReportAtFault::Read(reason) => told_of(rt, input, FileFault::Read(reason)),
+        ReportAtFault::Memory => Fault::Report(ReportFault::Memory),
+        ReportAtFault::Write => fault_of_write(writer),
+    }
+}
+
+/// Reports on a file by several workers.
+pub fn report_on_file<R: Threads + Wait + Sync>(
+    rt: &HostRuntime,
+    threads: &R,
+    input: Input<'_>,
+    file: &SharedFile,
+    command: &Command,
+) -> Result<Status, Fault>
+    requires piece { 1 ≤ command.now.piece }
+    requires shared { IsShared command.now }
+{
+    let mut writer = End::new(Output::of(rt));
+    match report_at(threads, rt.alloc(), file, &mut writer, command) {
+        Ok(exit) => Ok(Status::of_exit(exit)),
+        Err(fault) => Err(fault_of(rt, input, &writer, fault)),
+    }
+}

@@ -1,0 +1,40 @@
+-- What a report on bytes that are read at offsets writes.
+use Rattle.std.specs.Prelude.{◌≡◌, ℕ, List, Option, ⊤}
+use Rattle.std.specs.Io.KnownBytes.{Appends}
+use Rattle.jx_ends.specs.declared.exit.Exit.{Exit}
+use Rattle.jx_ends.specs.Ends.{AppendsBeginning}
+use Rattle.jx_run.specs.declared.texts.settings.NameRule.TheVariants.{Any}
+use Rattle.jx_task.specs.declared.command.Command.{Command}
+use Rattle.jx_task.specs.declared.task.Task.TheVariants.{Check}
+use Rattle.jx_words.specs.Verdicts.{shown_output}
+use Rattle.jx_report.specs.Output.{Output}
+use Rattle.jx_parallel.specs.Offsets.{IsContent}
+use Rattle.jx_parallel_report.specs.declared.report_at_fault.ReportAtFault.{ReportAtFault}
+use Rattle.jx_parallel_report.specs.declared.report_at_fault.ReportAtFault.TheVariants.{Memory, Read, Write}
+
+-- it asks for the verdict on a text whose objects may have any names
+abbrev pub IsShared : Command → Type 0
+IsShared command = (command.task ≡ Check) × (command.settings.names ≡ Any)
+
+-- the writer got the whole output for a text, or nothing where the command is quiet; where the content is known, that is the text
+pub record ReportsAt (command : Command) (known written grown : Option (List ℕ)) (exit : Exit) : Type 0 where
+  pub text : List ℕ
+  pub output : List ℕ
+  pub whole : IsContent known text
+  pub answer : Output command.task command.settings text output exit
+  pub wrote : Appends written grown (shown_output command.quiet output)
+
+-- the writer got a beginning of that, and not all
+pub record ReportsAtInPart (command : Command) (known written grown : Option (List ℕ)) : Type 0 where
+  pub text : List ℕ
+  pub output : List ℕ
+  pub exit : Exit
+  pub whole : IsContent known text
+  pub answer : Output command.task command.settings text output exit
+  pub wrote : AppendsBeginning written grown (shown_output command.quiet output)
+
+-- if a read failed, it failed for such a reason
+abbrev pub FailsBy : {E : Type 0} → (E → Type 0) → ReportAtFault E → Type 0
+FailsBy may_fail Memory = ⊤
+FailsBy may_fail (Read reason) = may_fail reason
+FailsBy may_fail Write = ⊤

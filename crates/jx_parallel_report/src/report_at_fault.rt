@@ -1,0 +1,10 @@
+/// Why a report on bytes that are read at offsets gave no answer.
+#[derive(Debug, Drop)]
+pub enum ReportAtFault<E> {
+    /// A growth of memory was refused. Nothing was written.
+    Memory,
+    /// A read failed, for this reason. Nothing was written.
+    Read(E),
+    /// The writer failed, or took no byte. A beginning of the output was written.
+    Write,
+}

@@ -1,0 +1,120 @@
+"""by_offsets.py PROGRAM: makes the texts that lines on standard input name, and compares what `check` by several workers answers to them with
+what is known of each by how it was made, and with what one worker answers. Prints each difference, and how many answers were right."""
+import pathlib
+import subprocess
+import sys
+
+FRONT_MARK = b"\xef\xbb\xbf"
+STEP = 262144  # what a worker reads where no size of a piece is asked for
+
+
+def filled(front, unit, pad, end, size):
+    """Of so many bytes: as many whole units as there is room for."""
+    room = size - len(front) - len(end)
+    return front + unit * (room // len(unit)) + pad * (room % len(unit)) + end
+
+
+TEXTS = {
+    "list": lambda size: filled(b"[1", ',"\u00e9\\n\\u00e9",{"k":[-1.5e3,null]}'.encode(), b" ", b"]", size),
+    "ones": lambda size: filled(b"[1", b",1", b" ", b"]", size),
+    "string": lambda size: filled(b'"', "a\u20ac\\\\\\u20ac".encode(), b"a", b'"', size),
+    "slashes": lambda size: filled(b'"', b"\\\\", b"/", b'"', size),
+    "blanks": lambda size: filled(b"[", b" \n", b"\t", b"]", size),
+    "deep": lambda size: b"[" * (size // 2) + b" " * (size % 2) + b"]" * (size // 2),
+}
+
+
+def offsets_of(word, size, step):
+    """Where a word says that a text is cut or damaged."""
+    if word == "each":
+        return range(size)
+    if word == "ends":
+        return sorted({0, 1, size // 2, size - 2, size - 1})
+    borders = range(step, size, step * max(1, size // step // 12))
+    return sorted({at + by for at in borders for by in (-1, 0, 1) if at + by < size} | {0, size - 1})
+
+
+def made(kind, size, step, words):
+    """Texts with the line that each is answered with."""
+    text = TEXTS[kind](size)
+    for word in words.split():
+        what, _, where = word.partition(":")
+        if what == "whole":
+            yield text, "accepted"
+            yield FRONT_MARK + text, "stopped at 0"
+        elif what == "marked":
+            yield text, "accepted"
+            yield FRONT_MARK + text, "accepted"
+            yield FRONT_MARK[:2] + text, f"stopped at 2"
+            yield FRONT_MARK + FRONT_MARK + text, "stopped at 3"
+            yield FRONT_MARK + text[:-1], "truncated"
+        elif what == "limit":
+            deepest = size // 2
+            yield text, f"too deep at {where}" if deepest > int(where) else "accepted"
+        elif what == "cut":
+            for at in offsets_of(where, size, step):
+                yield text[:at], "truncated"
+        elif what == "damaged":
+            for at in offsets_of(where, size, step):
+                yield text[:at] + b"\x01" + text[at + 1 :], f"stopped at {at}"
+
+
+def texts_of(step, counts, kinds, words):
+    for kind in kinds.split():
+        for count in counts.split():
+            for by in (-1, 0, 1):
+                size = int(count) * step + by
+                if size >= 4:
+                    yield from made(kind, size, step, words)
+
+
+def said(program, options, paths):
+    done = subprocess.run([program, "check", *options, "--", *paths], stdin=subprocess.DEVNULL, capture_output=True, text=True)
+    return done.returncode, done.stdout, done.stderr
+
+
+def compare(program, room, line):
+    """How many answers of a line are right, and which are wrong."""
+    piece, counts, kinds, words, options = (part.strip() for part in line.split("|"))
+    step = STEP if piece == "-" else int(piece)
+    texts = list(texts_of(step, counts, kinds, words))
+    paths = []
+    for number, (text, _) in enumerate(texts):
+        path = room / str(number)
+        path.write_bytes(text)
+        paths.append(str(path))
+    settings = options.split() + ([] if piece == "-" else ["--piece", piece])
+    wanted = "".join(f"{path}: {words}\n" for path, (_, words) in zip(paths, texts))
+    status = 0 if all(words == "accepted" for _, words in texts) else 1
+    right, wrong = 0, []
+    answers = [(workers, said(program, [*settings, "--workers", workers], paths)) for workers in ("1", "2", "3", "8")]
+    for workers, answer in answers:
+        lines = list(zip(wanted.splitlines(), answer[1].splitlines()))
+        if answer == (status, wanted, ""):
+            right += len(texts)
+        else:
+            wrong += [f"{line}, {workers} workers: wanted {a}, got {b}" for a, b in lines if a != b][:3]
+            wrong += [f"{line}, {workers} workers: status {answer[0]}, {len(lines)} lines; {answer[2][:300]}"]
+    # One file alone is answered without its name, and another call of the program answers it.
+    for path, (_, words) in [*zip(paths, texts)][:: max(1, len(texts) // 6)]:
+        answer = said(program, [*settings, "--workers", "4"], [path])
+        if answer == (0 if words == "accepted" else 1, words + "\n", ""):
+            right += 1
+        else:
+            wrong.append(f"{line}, alone: wanted {words}, got {answer}")
+    return right, wrong
+
+
+def main():
+    room = pathlib.Path("texts")
+    room.mkdir()
+    right, wrong = 0, []
+    for line in sys.stdin.read().splitlines():
+        more, differences = compare(sys.argv[1], room, line)
+        right += more
+        wrong += differences
+    print(*wrong, sep="\n", end="\n" if wrong else "")
+    print(f"{right} right, {len(wrong)} wrong")
+
+
+main()

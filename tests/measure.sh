@@ -1,0 +1,34 @@
+#!/usr/bin/env bash
+# tools/measure makes its inputs, and prints each table with a figure for each input.
+. "$(dirname "$0")/lib.sh"
+
+measured() { "$root/tools/measure" --program "$program" --folder "$room/inputs" --size 1 --runs 1 "$@" 2>&1; }
+
+each_table_is_printed() {
+    local said table
+    said=$(measured --on records,ones,backslashes --tables workers,commands,lines,pointers,memory)
+    same 'the status' 0 $?
+    for table in '| `check` | records | ones | backslashes | mean | worst |' '| 4 workers over 1 | ' '| `check --unique-names` | ' '| `each` | ' \
+        '| over `check` | records, 1 | records, 4 |' '| `seq --live` | ' '| `at --index`, ms |' '| records, 1 MB | MB |' '| `index` | '; do
+        has "a table with $table" "$table" "$said"
+    done
+    same 'a row has a cell for each input, the mean and the worst' 7 \
+        "$(grep -m 1 '^| `save` | ' <<<"$said" | tr -cd '|' | wc -c)"
+}
+
+each_input_is_accepted() {
+    local input
+    for input in inputs/*.json; do same "$input" accepted "$("$program" check "$input")"; done
+    same 'lines' '' "$("$program" lines -q inputs/records-1.jsonl || echo refused)"
+    same 'a sequence' '' "$("$program" seq -q inputs/records-1.seq || echo refused)"
+}
+
+a_document_takes_the_place_of_a_made_one() {
+    mkdir real && printf '{"id":505874924095815681,"text":"a real one"}' >real/twitter.json
+    measured --on tweets --documents real --folder "$room/others" --tables workers >/dev/null
+    same 'the document stands in the input' '[{"id":505874924095815681,"text":"a real one"},' "$(head -c 47 others/tweets-1.json)"
+}
+
+tests each_table_is_printed \
+    each_input_is_accepted \
+    a_document_takes_the_place_of_a_made_one
