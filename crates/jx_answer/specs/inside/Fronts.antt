@@ -1,6 +1,8 @@
 -- A batch whose front one worker reads from where the reader stands.
-use Rattle.std.specs.Prelude.{◌≡◌, ℕ, ◌+◌, List, ◌++◌, length}
+use Rattle.std.specs.Prelude.{◌≡◌, ℕ, ◌+◌, List, ◌++◌, length, Result, Ok, Err}
 use Rattle.jx_run.specs.Reader.{ReaderValue, HasRead, HasFailed}
+use Rattle.jx_book.specs.declared.workers.worker.Cause.{Cause}
+use Rattle.jx_book.specs.declared.workers.worker.Cause.TheVariants.{Gate, Memory}
 use Rattle.jx_answer.specs.declared.batches.front.FrontState.{FrontState}
 use Rattle.jx_answer.specs.declared.batches.front.FrontState.TheVariants.{Unread, Done, Refused}
 
@@ -23,3 +25,10 @@ abbrev pub Leaves : List ℕ → ReaderValue → FrontState → ReaderValue → 
 Leaves bytes old Unread new = new ≡ old
 Leaves bytes old Done new = GoesOn bytes old new
 Leaves bytes old Refused new = GivesUp old new
+
+-- a front is unread where the gate said so, and refused for memory; behind one that was read the gate alone may say stop
+abbrev pub EndsAt : FrontState → Result (Unit {0}) Cause → Type 0
+EndsAt Unread ended = ended ≡ Err Gate
+EndsAt Refused ended = ended ≡ Err Memory
+EndsAt Done (Ok done) = Unit {0}
+EndsAt Done (Err cause) = cause ≡ Gate

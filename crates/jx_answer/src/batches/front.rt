@@ -3,7 +3,7 @@ ghost use Rattle.std.specs.Prelude.{◌≡◌, ◌+◌, ◌<◌, ◌^◌, length
 ghost use Rattle.jx_run.specs.Reader.{ReaderValue};
 ghost use Rattle.jx_answer.specs.inside.Fronts.{GivesUp, GoesOn, Leaves};
 
-use jx_book::Errand;
+use jx_book::{Cause, Errand};
 use jx_crew::{Event, Gate, Go, PieceNo};
 use jx_run::Reader;
 use std::alloc::AllocError;
@@ -83,24 +83,29 @@ impl<'b, 'g, G> Front<'b, 'g, G> {
 
 impl<'b, 'g, G: Gate> Errand for Front<'b, 'g, G> {
     ghost use Rattle.std.specs.Prelude.{◌≡◌, ◌+◌, ◌<◌, ◌^◌, length};
-    ghost use Rattle.jx_answer.specs.inside.Fronts.{Leaves};
+    ghost use Rattle.jx_answer.specs.inside.Fronts.{EndsAt, Leaves};
 
     ghost needs = { λ f. f.reader.start + f.reader.count + length f.bytes.now < 2 ^ 64 };
 
     ghost leaves = { λ f g. (g.bytes.now ≡ f.bytes.now) × Leaves f.bytes.now f.reader g.state g.reader };
 
-    fn run(&mut self) -> Go {
+    ghost ends = { λ f ended. EndsAt f.state ended };
+
+    fn run(&mut self) -> Result<(), Cause> {
         let worker = 0;
         let piece = self.piece;
         self.state = FrontState::Unread;
         if self.gate.pass(Event::Drew { worker, piece }) == Go::Stop {
-            return Go::Stop;
+            return Err(Cause::Gate);
         }
         if self.reader.feed(self.bytes).is_err() {
             self.state = FrontState::Refused;
-            return Go::Stop;
+            return Err(Cause::Memory);
         }
         self.state = FrontState::Done;
-        self.gate.pass(Event::Stored { worker })
+        match self.gate.pass(Event::Stored { worker }) {
+            Go::On => Ok(()),
+            Go::Stop => Err(Cause::Gate),
+        }
     }
 }

@@ -4,6 +4,7 @@ use Rattle.std.specs.declared.result.Result.{Result}
 use Rattle.jx_summary.specs.declared.span.Span.{Span}
 use Rattle.jx_claim.specs.Claimed.{TableId, SeatValue}
 use Rattle.jx_claim.specs.Cut.{drawn_len}
+use Rattle.jx_book.specs.declared.workers.worker.Cause.{Cause}
 use Rattle.jx_book.specs.declared.workers.worker.WorkerEnd.{WorkerEnd}
 use Rattle.jx_book.specs.declared.workers.worker.WorkerStop.{WorkerStop}
 use Rattle.jx_book.specs.declared.workers.reading.Job.{Job}
@@ -18,6 +19,12 @@ IsFresh id j = (j.seat.id ≡ id) × (j.seat.got ≡ []) × (j.seat.spent ≡ fa
 abbrev pub Balances : {S P T : Type 0} → List Span → TableId → Result (WorkerEnd P T) (WorkerStop S P T) → Type 0
 Balances ps id (Ok e) = (e.seat.id ≡ id) × (e.seat.spent ≡ true) × (drawn_len ps e.seat.got + e.share.taken ≡ e.share.put)
 Balances ps id (Err s) = (s.seat.id ≡ id) × (drawn_len ps s.seat.got + s.share.taken ≡ s.share.put + hand_len ps s.hand)
+
+-- a worker whose errand ended by a cause stops for that cause
+abbrev pub StopsFor : {S P T : Type 0} → Result (Unit {0}) Cause → Result (WorkerEnd P T) (WorkerStop S P T) → Type 0
+StopsFor (Ok ended) end = Unit {0}
+StopsFor (Err cause) (Ok e) = ⊥
+StopsFor (Err cause) (Err s) = s.cause ≡ cause
 
 -- the seat is of these claims; where the worker ended, it is spent, and nothing is in a hand
 abbrev pub IsHandedBack : List Span → TableId → SeatValue → ShareValue → Bool → Type 0

@@ -1,10 +1,11 @@
-ghost use Rattle.std.specs.Prelude.{◌≡◌, ◌+◌, List, length, true, All, sum_by, vec_len, IfOk, IsErr};
+ghost use Rattle.std.specs.Prelude.{◌≡◌, ◌+◌, List, length, true, All, sum_by, vec_len, IfOk, IsErr, Result};
 ghost use Rattle.jx_summary.specs.declared.span.Span.{Span};
 ghost use Rattle.jx_claim.specs.Claimed.{TableId, AreFresh};
 ghost use Rattle.jx_claim.specs.Cut.{drawn_len};
 ghost use Rattle.jx_book.specs.Shares.{share};
 ghost use Rattle.jx_book.specs.Gathered.{IsRest};
-ghost use Rattle.jx_book.specs.inside.Balance.{Balances, IsFresh, IsHandedBack};
+ghost use Rattle.jx_book.specs.declared.workers.worker.Cause.{Cause};
+ghost use Rattle.jx_book.specs.inside.Balance.{Balances, IsFresh, IsHandedBack, StopsFor};
 
 use crate::lock::book::Book;
 use crate::lock::gathering::gather;
@@ -12,9 +13,9 @@ use crate::lock::share::Share;
 use crate::stored::assembling::assemble;
 use crate::stored::held::Held;
 use crate::workers::errand::{Errand, NoErrand};
-use crate::workers::worker::{Cause, Hand, WorkerEnd, WorkerStop, work};
+use crate::workers::worker::{Hand, WorkerEnd, WorkerStop, work};
 use jx_claim::{ClaimSeat, Claims, Cutting};
-use jx_crew::{Crew, Gate, Go, Workers};
+use jx_crew::{Crew, Gate, Workers};
 use jx_fork::call_each;
 use jx_summary::{Depth, Summary};
 use std::alloc::{AllocError, Global};
@@ -266,7 +267,7 @@ fn work_all<
     (errand, end, ends)
 }
 
-/// Runs the errand, and lets its worker draw behind it, unless it says stop.
+/// Runs the errand, and lets its worker draw afterwards. Where the errand ends by a cause, the worker stops for that cause.
 fn work_behind<'a, S: Summary, P: Ledger, T: Ledger, E: Errand, R: Wait, G: Gate>(
     crew: &Crew<'_, R, G>,
     book: &Book<'a, S, P, T>,
@@ -283,11 +284,12 @@ fn work_behind<'a, S: Summary, P: Ledger, T: Ledger, E: Errand, R: Wait, G: Gate
     requires errand { E.needs errand }
     ensures errand { E.leaves errand result.0 }
     ensures end { Balances cutting.now.pieces claims.now.id result.1 }
+    ensures cause { (ended : Result (Unit {0}) Cause) × E.ends result.0 ended × StopsFor ended result.1 }
 {
     let mut errand = errand;
     let Job { seat, share } = job;
-    if errand.run() == Go::Stop {
-        let stop = WorkerStop::new(seat, share, Hand::Nothing, Cause::Gate);
+    if let Err(cause) = errand.run() {
+        let stop = WorkerStop::new(seat, share, Hand::Nothing, cause);
         return (errand, Err(stop));
     }
     let end = work(
