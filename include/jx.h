@@ -5,14 +5,14 @@
  *
  * Ownership: the caller owns all memory that it passes, and no call but jx_index_new, jx_finder_new, jx_values_new and
  * jx_saved_seek keeps a pointer to it. Handles are memory of the library: a document, an index, a shelf, a saved index, a save, a
- * look-up, a stream of values and a reader of lines. What calls that end in _new, _share or _open take, those that end in _free give
- * back.
+ * look-up, a stream of values and a reader of lines. What calls that end in _new, _share or _open take, those that end in _free
+ * give back.
  * A pointer must not be null, not even one to bytes with the size 0. Settings may be; calls on handles return a status for a null
  * pointer. What a call writes to must not overlap anything else that it is passed.
  *
  * Threads: calls share no state but a shelf, which is there for that, so any number of threads may call at once, each with its own
- * structs. One call at a time may use a struct that it writes to, or a handle. No call starts a thread or waits for one. Do not call
- * from a signal handler. A call takes at most JX_STACK_MOST bytes of its thread's stack.
+ * structs. One call at a time may use a struct that it writes to, or a handle. No call starts a thread or waits for one. Do not
+ * call from a signal handler. A call takes at most JX_STACK_MOST bytes of its thread's stack.
  *
  * Names that end in _non_null are what the inline call below them calls, which handles null pointers: call that one. The libraries
  * export it too, for languages that do not read this header. CHANGELOG.md says what callers change from version to version.
@@ -33,10 +33,10 @@ enum {
     JX_NO_MEMORY = 1,       /* out of memory */
     JX_DEPTH_TOO_GREAT = 2, /* the depth is above JX_DEPTH_MAX */
     JX_NOT_STARTED = 3,     /* the reader was not started */
-    JX_TOO_MANY_BYTES = 4,  /* the reader would have been fed 2^64 bytes or more, or a part would end there or behind */
+    JX_TOO_MANY_BYTES = 4,  /* the reader would have been fed 2^64 bytes or more, or a part would end there or after */
     JX_UNKNOWN_FLAG = 5,    /* unknown flag */
     JX_NO_UNIQUE_NAMES = 6, /* a reader, a document, a look-up, a stream, a save or a reader of lines keeps no names to check */
-    JX_OUT_OF_BOUNDS = 7,   /* the range ends before it starts, or behind the last byte; or there is no such row or chunk */
+    JX_OUT_OF_BOUNDS = 7,   /* the range ends before it starts, or after the last byte; or there is no such row or chunk */
     JX_NO_DOCUMENT = 8,     /* the struct holds no document, or the pointer to it is null */
     JX_NULL_POINTER = 9,    /* another pointer to a call on a handle is null */
     JX_NO_INDEX = 10,       /* the struct holds no index, or the pointer to it is null */
@@ -48,13 +48,13 @@ enum {
     /* 16 is not used */
     JX_NO_FINDER = 17,      /* the struct holds no look-up, or the pointer to it is null */
     JX_NO_VALUES = 18,      /* the struct holds no stream of values, or the pointer to it is null */
-    JX_NOT_A_POINTER = 19,  /* the bytes are no JSON Pointer: jx_at tells why, of any text */
+    JX_NOT_A_POINTER = 19,  /* the bytes are not a JSON Pointer: jx_at says why, of any text */
     JX_NOT_SAVED = 20,      /* the bytes do not begin as a saved index does */
     JX_OTHER_VERSION = 21,  /* the saved index is of another version of the format */
     JX_CUT_SHORT = 22,      /* the bytes of the saved index end too early */
-    JX_DAMAGED = 23,        /* the saved index is of no text */
-    JX_MALFORMED = 24,      /* a field of the saved index is none that an index has */
-    JX_MORE_BYTES = 25,     /* other bytes than tables of names stand behind the saved index, or any behind the tables */
+    JX_DAMAGED = 23,        /* the saved index is not that of any text */
+    JX_MALFORMED = 24,      /* the saved index has a field that no index has */
+    JX_MORE_BYTES = 25,     /* other bytes than tables of names follow the saved index, or any follow the tables */
     JX_OTHER_SIZE = 26,     /* the saved index is of a text of another size */
     JX_CHANGED = 27,        /* the bytes of the chunk are not those of the text that was indexed */
     JX_NO_SAVED = 28,       /* the struct holds no saved index, or the pointer to it is null */
@@ -67,7 +67,7 @@ enum {
     JX_TAKEN = 35           /* another index stands on the shelf */
 };
 
-/* The name of a status, as JX_NO_MEMORY; "?" of a number that is none. It is never freed. */
+/* The name of a status, as JX_NO_MEMORY; "?" of any other number. It is never freed. */
 static inline const char *jx_status_name(uint32_t status) {
     switch (status) {
     case JX_OK: return "JX_OK";
@@ -121,9 +121,9 @@ enum { JX_STACK_MOST = 65536 };
 
 /* Flags of settings. */
 enum {
-    /* Ignore a byte order mark, the bytes EF BB BF, in front of a text and before all blanks (RFC 8259, section 8.1).
-     * Offsets count its bytes. Input that ends within a mark is truncated, but for a first line (jx_lines), which is stopped at 0.
-     * Without this flag a mark is stopped at 0. */
+    /* Ignore a byte order mark, the bytes EF BB BF, in front of a text and before all white space (RFC 8259, section 8.1).
+     * Offsets count its bytes. Input that ends within it is truncated, but for a first line (jx_lines), which is stopped at 0.
+     * Without this flag it is stopped at 0. */
     JX_IGNORE_MARK = 1,
     /* Refuse duplicate names in an object, at the offset of the first duplicate. Names are equal if their values are, as
      * lists of UTF-16 code units. Without this flag any names are accepted (RFC 8259, section 4). */
@@ -145,7 +145,7 @@ static inline const jx_settings *jx_settings_or_default(const jx_settings *setti
 /* Kinds of verdicts. Elements of sequences have two more, and so have lines. */
 enum {
     JX_ACCEPTED = 0,     /* the bytes are a text */
-    JX_STOPPED = 1,      /* no text goes on with the byte at the offset */
+    JX_STOPPED = 1,      /* the bytes up to and with the one at the offset begin no valid text */
     JX_TRUNCATED = 2,    /* the text ends too early: more bytes can complete it */
     JX_TOO_DEEP = 3,     /* only a greater depth lets the text go on with the byte at the offset */
     JX_REPEATED_NAME = 6 /* with JX_UNIQUE_NAMES: the name at the offset is a duplicate */
@@ -162,7 +162,8 @@ uint32_t jx_check_non_null(const uint8_t *text, size_t size, const jx_settings *
  * beginning of a text.
  *
  * Allocates nothing without JX_UNIQUE_NAMES; with it, memory in proportion to the names of the objects that are open at
- * once, freed before the call returns. Returns JX_OK, JX_DEPTH_TOO_GREAT, JX_UNKNOWN_FLAG, or JX_NO_MEMORY with JX_UNIQUE_NAMES. */
+ * once, freed before the call returns. Returns JX_OK, JX_DEPTH_TOO_GREAT, JX_UNKNOWN_FLAG, or JX_NO_MEMORY with JX_UNIQUE_NAMES.
+ * */
 static inline uint32_t jx_check(const uint8_t *text, size_t size, const jx_settings *settings, jx_verdict *verdict) {
     return jx_check_non_null(text, size, jx_settings_or_default(settings), verdict);
 }
@@ -170,13 +171,13 @@ static inline uint32_t jx_check(const uint8_t *text, size_t size, const jx_setti
 uint32_t jx_compact_non_null(const uint8_t *text, size_t size, const jx_settings *settings, uint8_t *compact, size_t room,
                              size_t *compact_size, jx_verdict *verdict);
 
-/* Writes the compact form of a JSON text to `compact`: its tokens one behind another, without the blanks between them (RFC 8259,
- * section 2). Each token keeps its bytes: no number, name or string is rewritten. An ignored byte order mark is left out. Writes
- * the form's size to `compact_size`. It is at most `size`, so a room of `size` bytes is enough. A form of more than `room` bytes is
- * not written, and JX_NO_ROOM is returned: its size says how much room a second call needs.
+/* Writes the compact form of a JSON text to `compact`: its tokens one after another, without the white space between them
+ * (RFC 8259, section 2). Each token keeps its bytes: no number, name or string is rewritten. An ignored byte order mark is left
+ * out. Writes the form's size to `compact_size`. It is at most `size`, so a room of `size` bytes is enough. A form of more than
+ * `room` bytes is not written, and JX_NO_ROOM is returned: its size says how much room a second call needs.
  *
  * The bytes are checked first, and the verdict is that of jx_check. Of bytes that are refused nothing is written, and
- * `compact_size` is 0. No byte of `compact` behind the form is changed.
+ * `compact_size` is 0. No byte of `compact` after the form is changed.
  *
  * Allocates nothing without JX_UNIQUE_NAMES; with it, what jx_check does. Returns JX_OK, JX_NO_ROOM, JX_DEPTH_TOO_GREAT,
  * JX_UNKNOWN_FLAG, or JX_NO_MEMORY with JX_UNIQUE_NAMES. */
@@ -201,7 +202,7 @@ static inline uint32_t jx_reader_start(jx_reader *reader, const jx_settings *set
     return jx_reader_start_non_null(reader, jx_settings_or_default(settings));
 }
 
-/* Feeds the next bytes of the text. Bytes behind a fault are counted, not read. A slice may have any size, including 0, and
+/* Feeds the next bytes of the text. Bytes after a fault are counted, not read. A slice may have any size, including 0, and
  * may end anywhere, including inside a character.
  *
  * Allocates nothing. Returns JX_OK, JX_NOT_STARTED or JX_TOO_MANY_BYTES. */
@@ -354,11 +355,11 @@ static inline void jx_finder_free(jx_finder *finder) {
  * soon as it is due. Beside the value or the name that is not whole yet no byte of the text is kept.
  *
  * A pointer leads to the array or object, by the first member of each of its names; the empty one leads to the root. The compact
- * form of a value is its tokens one behind another, without the blanks between them (RFC 8259, section 2); each token keeps its
- * bytes. A string has no line feed (section 7), so each form is one line.
+ * form of a value is its tokens one after another, without the white space between them (RFC 8259, section 2); each token keeps
+ * its bytes. A string has no line feed (section 7), so each form is one line.
  *
- * A value is due once the comma or the bracket behind it is read, before the first fault of the text: of "[1,2,3x" the values 1
- * and 2 are due, of "[1,2 " the value 1. What is due stays due, whatever comes behind it, and is the same for all slices. Of a
+ * A value is due once the comma or the bracket after it is read, before the first fault of the text: of "[1,2,3x" the values 1
+ * and 2 are due, of "[1,2 " the value 1. What is due stays due, whatever comes after it, and is the same for all slices. Of a
  * text all values are due.
  *
  * The struct is a handle, which the library alone writes. Set it to {0}, which holds no stream, before its first call. Free it
@@ -370,7 +371,7 @@ typedef struct jx_values {
     void *inside;
 } jx_values;
 
-/* What the pointer of a stream comes to. */
+/* Where the pointer of a stream leads. */
 typedef struct jx_outcome {
     size_t at;     /* a token's number, from 0, or an offset in the text; 0 if the kind has none */
     uint32_t kind; /* JX_FOUND .. JX_NOT_A_CONTAINER, or JX_TEXT_STOPPED .. JX_TEXT_TOO_DEEP */
@@ -422,10 +423,10 @@ static inline uint32_t jx_values_take(jx_values *values, uint8_t *lines, size_t 
     return jx_values_take_non_null(values, lines == NULL ? none : lines, room, size);
 }
 
-/* Ends the stream. Tells what the pointer comes to in the text of all bytes fed: JX_FOUND where it leads to an array or an object,
+/* Ends the stream. Writes where the pointer leads in the text of all bytes fed: JX_FOUND where it leads to an array or an object,
  * by names of which each names one member. Else the kind is that of jx_at; JX_NOT_A_CONTAINER also has the count of the pointer's
- * tokens in `at`, where it leads to a scalar. Bytes that are no text have the kind of their refusal. Take what waits before: no
- * value becomes due by the end, and those that wait are lost. The struct holds no stream afterwards.
+ * tokens in `at`, where it leads to a scalar. Bytes that are not valid JSON have the kind of their refusal. Take what waits
+ * before: no value becomes due by the end, and those that wait are lost. The struct holds no stream afterwards.
  *
  * May allocate, and frees it. After JX_NO_MEMORY the stream is freed, and nothing was written. Returns JX_OK, JX_NO_MEMORY,
  * JX_NO_VALUES or JX_NULL_POINTER. */
@@ -523,16 +524,16 @@ static inline void jx_index_free(jx_index *index) {
 }
 
 /* A shelf: a place for one index, on which many threads look things up at once. One of them puts an index there, at any time. From
- * then on each finds and reads rows in that index, and never another one, or none; until it sees it there it is told JX_NO_INDEX.
+ * then on each finds and reads rows in that index, and never another one, or none; until it sees it there it gets JX_NO_INDEX.
  * No call waits for another.
  *
  * The struct is a handle of a shelf, which the library alone writes, and each thread has one of its own: jx_shelf_share makes
  * another one of the same shelf. Set it to {0}, which holds none, before its first call. Free each once. It may be moved, also to
- * another thread. Do not use a copy of it after a call on another copy. The shelf and the index on it are freed with the last handle;
- * until then the text of the index must stay as it is.
+ * another thread. Do not use a copy of it after a call on another copy. The shelf and the index on it are freed with the last
+ * handle; until then the text of the index must stay as it is.
  *
- * Null pointers change nothing, and the status is JX_NO_SHELF where `shelf` is null, else JX_NULL_POINTER. Bytes of the size 0 may be
- * null. */
+ * Null pointers change nothing, and the status is JX_NO_SHELF where `shelf` is null, else JX_NULL_POINTER. Bytes of the size 0
+ * may be null. */
 typedef struct jx_shelf {
     void *inside;
 } jx_shelf;
@@ -570,8 +571,8 @@ static inline uint32_t jx_shelf_share(jx_shelf *shelf, jx_shelf *other) {
 }
 
 /* Puts the index that a struct holds on the shelf, if none stands there: the struct holds none then, and the index is the shelf's.
- * Where another one stands there, JX_TAKEN is returned, and the struct holds its index as before. Of several threads that put one at
- * once, one is told JX_OK.
+ * Where another one stands there, JX_TAKEN is returned, and the struct holds its index as before. Of several threads that put one
+ * at once, one gets JX_OK.
  *
  * Allocates some 200 bytes. After JX_NO_MEMORY the struct holds no index, and none was put. Returns JX_OK, JX_TAKEN, JX_NO_MEMORY,
  * JX_NO_INDEX where the struct holds none, JX_NO_SHELF or JX_NULL_POINTER. */
@@ -581,7 +582,7 @@ static inline uint32_t jx_shelf_put(jx_shelf *shelf, jx_index *index) {
     return jx_shelf_put_non_null(shelf, index);
 }
 
-/* Tells of which text the index on the shelf is: the bytes that jx_index_new was passed.
+/* Gives the text of the index on the shelf: the bytes that jx_index_new was passed.
  *
  * Allocates nothing. Returns JX_OK, JX_NO_INDEX where none stands there, JX_NO_SHELF or JX_NULL_POINTER. */
 static inline uint32_t jx_shelf_text(jx_shelf *shelf, jx_text *text) {
@@ -607,8 +608,8 @@ static inline uint32_t jx_shelf_find(jx_shelf *shelf, const uint8_t *pointer, si
 
 /* Gives a value by the number of its row in the index on the shelf, as jx_index_row does.
  *
- * Allocates nothing. Returns JX_OK, JX_OUT_OF_BOUNDS if there are no more rows, JX_NO_INDEX where no index stands there, JX_NO_SHELF
- * or JX_NULL_POINTER. */
+ * Allocates nothing. Returns JX_OK, JX_OUT_OF_BOUNDS if there are no more rows, JX_NO_INDEX where no index stands there,
+ * JX_NO_SHELF or JX_NULL_POINTER. */
 static inline uint32_t jx_shelf_row(jx_shelf *shelf, size_t number, jx_row *row) {
     if (shelf == NULL) return JX_NO_SHELF;
     if (row == NULL) return JX_NULL_POINTER;
@@ -624,7 +625,7 @@ static inline void jx_shelf_free(jx_shelf *shelf) {
 /* The index of a text that comes slice by slice, to be saved beside it: 0.075 % of its size with chunks of 32 KiB. docs/FORMAT.md
  * says what its bytes are; they depend on the text, the settings and the size of a chunk alone.
  *
- * The struct is a handle, which the library alone writes. Set it to {0}, which holds no text, before its first call. Free it once.
+ * The struct is a handle, which the library alone writes. Set it to {0}, which is empty, before its first call. Free it once.
  * It may be moved, also to another thread. Do not use a copy of it after a call on another copy.
  *
  * Null pointers change nothing, and the status is JX_NO_SAVE where `save` is null, else JX_NULL_POINTER. Settings may be null, and
@@ -653,7 +654,7 @@ static inline uint32_t jx_save_new(const jx_settings *settings, size_t chunk, jx
     return jx_save_new_non_null(jx_settings_or_default(settings), chunk, save);
 }
 
-/* The same, with tables of the text's names behind the index. By these a look-up needs only the chunks of an object that may have
+/* The same, with tables of the text's names after the index. By these a look-up needs only the chunks of an object that may have
  * the name. Without them it needs all chunks of the object. The answers are the same. The calls below speak of the index and mean
  * the tables too. A name takes at most four bytes of them.
  *
@@ -664,11 +665,11 @@ static inline uint32_t jx_save_new_with_names(const jx_settings *settings, size_
 }
 
 /* Feeds the next bytes of the text. A slice may have any size, including 0, and may end anywhere: the index is the same for all
- * slices. Bytes behind a fault are not looked at.
+ * slices. Bytes after a fault are not looked at.
  *
  * Allocates 32 bytes or some more for each chunk, and keeps less than one chunk of the text. With tables it allocates 8 bytes or
- * some more for each name too, and keeps a name that a chunk cuts. After JX_NO_MEMORY, also for 2^64 bytes or more in all, the struct
- * holds no text. Returns JX_OK, JX_NO_MEMORY, JX_NOT_BEGUN where the text has ended, JX_NO_SAVE or JX_NULL_POINTER. */
+ * some more for each name too, and keeps a name that a chunk cuts. After JX_NO_MEMORY, also for 2^64 bytes or more in all, the
+ * struct is empty. Returns JX_OK, JX_NO_MEMORY, JX_NOT_BEGUN where the text has ended, JX_NO_SAVE or JX_NULL_POINTER. */
 static inline uint32_t jx_save_feed(jx_save *save, const uint8_t *bytes, size_t size) {
     static const uint8_t none[1] = {0};
     if (save == NULL) return JX_NO_SAVE;
@@ -677,10 +678,10 @@ static inline uint32_t jx_save_feed(jx_save *save, const uint8_t *bytes, size_t 
 }
 
 /* Ends the text: writes the verdict on all bytes that were fed, that of jx_check, and how many bytes the index has. Where the text
- * is accepted, they wait in the struct until it is freed: jx_save_take copies them. Else the struct holds no text, and the size
+ * is accepted, they wait in the struct until it is freed: jx_save_take copies them. Else the struct is empty, and the size
  * is 0.
  *
- * Allocates memory in proportion to the index. After JX_NO_MEMORY the struct holds no text. Returns JX_OK, JX_NO_MEMORY,
+ * Allocates memory in proportion to the index. After JX_NO_MEMORY the struct is empty. Returns JX_OK, JX_NO_MEMORY,
  * JX_NOT_BEGUN where the text has ended before, JX_NO_SAVE or JX_NULL_POINTER. */
 static inline uint32_t jx_save_end(jx_save *save, size_t *index_size, jx_verdict *verdict) {
     if (save == NULL) return JX_NO_SAVE;
@@ -689,7 +690,7 @@ static inline uint32_t jx_save_end(jx_save *save, size_t *index_size, jx_verdict
 }
 
 /* Copies the bytes of the index to `index`, once the text has ended, and writes their size to `index_size`. More than `room` bytes
- * are not written, and JX_NO_ROOM is returned. No byte of `index` behind them is changed.
+ * are not written, and JX_NO_ROOM is returned. No byte of `index` after them is changed.
  *
  * Allocates nothing. Returns JX_OK, JX_NO_ROOM, JX_NOT_BEGUN where the text has not ended, JX_NO_SAVE or JX_NULL_POINTER. */
 static inline uint32_t jx_save_take(jx_save *save, uint8_t *index, size_t room, size_t *index_size) {
@@ -709,13 +710,13 @@ static inline void jx_save_free(jx_save *save) {
  * It asks for the bytes of the text that it needs, and the caller gives them, from a file, a map or a request to a server.
  *
  * An answer is RFC 6901's on the text that was indexed, unless a chunk that was given has the kept digest and other bytes. A
- * changed chunk is reported when it is given. Chunks that are not needed are not looked at. A digest finds change, not forgery: of a
- * made-up index answers are of no use, but all calls are safe and end.
+ * changed chunk is reported when it is given. Chunks that are not needed are not looked at. A digest finds change, not forgery:
+ * of a made-up index answers are of no use, but all calls are safe and end.
  *
  * One look-up of pointers or one split at a time goes on by an index. The next one that begins takes its place.
  *
- * The struct is a handle, which the library alone writes. Set it to {0}, which holds no index, before its first call. Free it once.
- * It may be moved, also to another thread. Do not use a copy of it after a call on another copy.
+ * The struct is a handle, which the library alone writes. Set it to {0}, which holds no index, before its first call. Free it
+ * once. It may be moved, also to another thread. Do not use a copy of it after a call on another copy.
  *
  * Null pointers change nothing, and the status is JX_NO_SAVED where `saved` is null, else JX_NULL_POINTER. Bytes of the size 0 may
  * be null, and so may a list or a buffer without room. */
@@ -731,12 +732,12 @@ typedef struct jx_saved_text {
     uint32_t flags;
 } jx_saved_text;
 
-/* Whole children of a container, one behind another, and what stands between them. With brackets around it, it is a JSON text. */
+/* Whole children of a container, one after another, and what stands between them. With brackets around it, it is a JSON text. */
 typedef struct jx_part {
-    jx_span span;  /* from behind the comma or bracket before its first child, up to the one behind its last */
+    jx_span span;  /* from after the comma or bracket before its first child, up to the one after its last */
     size_t number; /* which part of the container's bytes it is, from 0 */
     size_t first;  /* its first child, counted from 0 in the container */
-    size_t end;    /* the child behind its last one */
+    size_t end;    /* the child after its last one */
 } jx_part;
 
 /* Into at most so many parts a container is split. */
@@ -756,7 +757,7 @@ void jx_saved_free_non_null(jx_saved *saved);
 
 /* Opens a saved index by its bytes, of a text of `text_size` bytes. It keeps no pointer to the bytes, and looks at them before it
  * uses them: any bytes may be passed. An index that the struct held is freed. Any status but JX_OK leaves the struct as it was.
- * Where tables of names stand behind the index, look-ups go by them.
+ * Where tables of names follow the index, look-ups go by them.
  *
  * Allocates memory in proportion to the index, which jx_saved_free frees. Returns JX_OK, JX_NO_MEMORY, JX_NOT_SAVED,
  * JX_OTHER_VERSION, JX_CUT_SHORT, JX_DAMAGED, JX_MALFORMED, JX_MORE_BYTES, JX_OTHER_SIZE, JX_NO_SAVED or JX_NULL_POINTER. */
@@ -767,7 +768,7 @@ static inline uint32_t jx_saved_open(const uint8_t *index, size_t index_size, si
     return jx_saved_open_non_null(index == NULL ? none : index, index_size, text_size, saved);
 }
 
-/* Tells what the index says of its text.
+/* Gives what the index says of its text.
  *
  * Allocates nothing. Returns JX_OK, JX_NO_SAVED or JX_NULL_POINTER. */
 static inline uint32_t jx_saved_about(jx_saved *saved, jx_saved_text *text) {
@@ -790,10 +791,10 @@ static inline uint32_t jx_saved_seek(jx_saved *saved, const jx_pointer *pointers
 }
 
 /* Begins a split of an array or an object into `parts` parts, from 1 to JX_PARTS_MAX, by its span as a look-up gave it. Of another
- * span the parts are of no use. In a container a..b the child behind a comma at c, or at a for the first one, stands in part
+ * span the parts are of no use. In a container a..b the child after a comma at c, or at a for the first one, stands in part
  * (c - a) * parts / (b - a), without the remainder. So the parts are the text's, whatever the size of a chunk.
  *
- * Allocates nothing. Returns JX_OK, JX_OUT_OF_BOUNDS for a span that is empty or ends behind the text, or no such number of parts,
+ * Allocates nothing. Returns JX_OK, JX_OUT_OF_BOUNDS for a span that is empty or ends after the text, or no such number of parts,
  * JX_NO_SAVED or JX_NULL_POINTER. */
 static inline uint32_t jx_saved_split(jx_saved *saved, const jx_span *container, size_t parts) {
     if (saved == NULL) return JX_NO_SAVED;
@@ -801,8 +802,8 @@ static inline uint32_t jx_saved_split(jx_saved *saved, const jx_span *container,
     return jx_saved_split_non_null(saved, container, parts);
 }
 
-/* Tells which bytes of the text are to be given next: one chunk. Start and end are 0 where no more are needed, or nothing goes on.
- * Each chunk stands behind those before it.
+/* Gives which bytes of the text are needed next: one chunk. Start and end are 0 where no more are needed, or nothing goes on.
+ * Each chunk comes after those before it.
  *
  * Allocates nothing. Returns JX_OK, JX_NO_SAVED or JX_NULL_POINTER. */
 static inline uint32_t jx_saved_needs(jx_saved *saved, jx_span *need) {
@@ -814,8 +815,8 @@ static inline uint32_t jx_saved_needs(jx_saved *saved, jx_span *need) {
 /* Gives the bytes that are needed, all of them. Where they are not those of the text that was indexed, JX_CHANGED is returned, and
  * other bytes may be given. After JX_DAMAGED and JX_NO_MEMORY nothing goes on any more. Where none are needed, nothing is done.
  *
- * Allocates memory for how deep the text nests where pointers lead, for a name that a chunk cuts, and for the parts. With tables it
- * allocates four bytes or some more for each token of the pointers, and frees them. Returns JX_OK, JX_CHANGED, JX_DAMAGED,
+ * Allocates memory for how deep the text nests where pointers lead, for a name that a chunk cuts, and for the parts. With tables
+ * it allocates four bytes or some more for each token of the pointers, and frees them. Returns JX_OK, JX_CHANGED, JX_DAMAGED,
  * JX_NO_MEMORY, JX_NOT_BEGUN where nothing goes on, JX_NO_SAVED or JX_NULL_POINTER. */
 static inline uint32_t jx_saved_give(jx_saved *saved, const uint8_t *bytes, size_t size) {
     static const uint8_t none[1] = {0};
@@ -827,8 +828,8 @@ static inline uint32_t jx_saved_give(jx_saved *saved, const uint8_t *bytes, size
 /* Ends the look-up: writes what each pointer names in the text that was indexed, as jx_at does, in the order of the pointers.
  * Writes as many answers as fit, and leaves the rest of `answers` unchanged. Names may repeat, whatever settings the index has.
  *
- * Allocates memory in proportion to the pointers and frees it. Returns JX_OK, JX_MORE_NEEDED, JX_DAMAGED, JX_NO_MEMORY, JX_NOT_BEGUN
- * where no look-up goes on, JX_NO_SAVED or JX_NULL_POINTER. */
+ * Allocates memory in proportion to the pointers and frees it. Returns JX_OK, JX_MORE_NEEDED, JX_DAMAGED, JX_NO_MEMORY,
+ * JX_NOT_BEGUN where no look-up goes on, JX_NO_SAVED or JX_NULL_POINTER. */
 static inline uint32_t jx_saved_answers(jx_saved *saved, jx_answer *answers, size_t room) {
     jx_answer none[1];
     if (saved == NULL) return JX_NO_SAVED;
@@ -839,8 +840,8 @@ static inline uint32_t jx_saved_answers(jx_saved *saved, jx_answer *answers, siz
 /* Ends the split: writes the parts that have a child, in order, as many as fit, and leaves the rest of `parts` unchanged. Writes how
  * many there are to `count`: none for an empty container, and at most as many as were asked for.
  *
- * Allocates nothing. Returns JX_OK, JX_MORE_NEEDED, JX_DAMAGED, JX_NO_MEMORY where memory was refused before, JX_NOT_BEGUN where no
- * split goes on, JX_NO_SAVED or JX_NULL_POINTER. */
+ * Allocates nothing. Returns JX_OK, JX_MORE_NEEDED, JX_DAMAGED, JX_NO_MEMORY where it was out of memory before, JX_NOT_BEGUN
+ * where no split goes on, JX_NO_SAVED or JX_NULL_POINTER. */
 static inline uint32_t jx_saved_parts(jx_saved *saved, jx_part *parts, size_t room, size_t *count) {
     jx_part none[1];
     if (saved == NULL) return JX_NO_SAVED;
@@ -850,7 +851,7 @@ static inline uint32_t jx_saved_parts(jx_saved *saved, jx_part *parts, size_t ro
 
 /* Writes the span of the chunk in whose place an offset of the text falls. The last chunk may end before its place does.
  *
- * Allocates nothing. Returns JX_OK, JX_OUT_OF_BOUNDS behind the place of the last chunk, JX_NO_SAVED or JX_NULL_POINTER. */
+ * Allocates nothing. Returns JX_OK, JX_OUT_OF_BOUNDS after the place of the last chunk, JX_NO_SAVED or JX_NULL_POINTER. */
 static inline uint32_t jx_saved_chunk(jx_saved *saved, size_t at, jx_span *chunk) {
     if (saved == NULL) return JX_NO_SAVED;
     if (chunk == NULL) return JX_NULL_POINTER;
@@ -878,7 +879,7 @@ static inline void jx_saved_free(jx_saved *saved) {
 typedef int (*jx_read_at)(void *context, size_t from, uint8_t *bytes, size_t size);
 
 /* Looks pointers up in one call: begins a look-up, reads each chunk that it needs into `buffer` by `read_at`, and ends it. `room` is
- * at least the size of a chunk, which jx_saved_about tells. `read_at` is called by this function, not by the library.
+ * at least the size of a chunk, which jx_saved_about gives. `read_at` is called by this function, not by the library.
  *
  * Returns what jx_saved_seek, jx_saved_give and jx_saved_answers return; JX_NO_ROOM for a buffer that is smaller than a chunk, or
  * JX_READ_FAILED. */
@@ -899,14 +900,14 @@ static inline uint32_t jx_saved_find(jx_saved *saved, jx_read_at read_at, void *
 
 /* Kinds of verdicts on elements of sequences, in addition to those on texts. */
 enum {
-    JX_MAY_BE_CUT = 4, /* a number, true, false or null with nothing behind it may be the beginning of a longer text (RFC
+    JX_MAY_BE_CUT = 4, /* a number, true, false or null with nothing after it may be the beginning of a longer text (RFC
                           7464, section 2.4) */
     JX_UNMARKED = 5    /* the element comes before the first record separator */
 };
 
 /* An element of a JSON text sequence. */
 typedef struct jx_element {
-    jx_span span;       /* from behind its record separator up to the next one or the end */
+    jx_span span;       /* from after its record separator up to the next one or the end */
     jx_verdict verdict; /* JX_ACCEPTED .. JX_REPEATED_NAME; offsets count from the sequence's start */
 } jx_element;
 
@@ -915,9 +916,9 @@ uint32_t jx_elements_non_null(const uint8_t *sequence, size_t size, const jx_set
 
 /* Lists all elements of a JSON text sequence (RFC 7464, section 2.1) in order, each with its verdict. Writes as many as fit
  * to `elements` and leaves the rest of it unchanged; writes how many there are to `count`. A record separator is the byte
- * 1E. There is no element between two in a row, nor behind one at the end, so there is at most one more element than record
+ * 1E. There is no element between two in a row, nor after one at the end, so there is at most one more element than record
  * separators. A first call with room 0 says how many; `elements` must not be null in either. JX_IGNORE_MARK skips a byte
- * order mark that is alone before the first record separator; in an element a mark is refused. JX_UNIQUE_NAMES refuses an
+ * order mark that is alone before the first record separator; in an element one is refused. JX_UNIQUE_NAMES refuses an
  * element at its first duplicate name.
  *
  * Allocates memory in proportion to the count of elements and to the sizes of the first and the last one, with JX_UNIQUE_NAMES
@@ -929,10 +930,10 @@ static inline uint32_t jx_elements(const uint8_t *sequence, size_t size, const j
 }
 
 /* JSON Lines, also called NDJSON: bytes that line feeds cut into lines, each of which is to be a JSON text. They come slice by
- * slice, as they are read, and lines that are no texts wait in the library until they are taken.
+ * slice, as they are read, and lines that are not valid JSON wait in the library until they are taken.
  *
- * A line is what stands before a line feed, the byte 0A, and behind the one before it, so a carriage return at its end is a
- * blank of its own (RFC 8259, section 2). What stands behind the last line feed is a line, too, unless it is empty.
+ * A line is the bytes up to a line feed, the byte 0A, from the one before it on, so a carriage return at its end is white
+ * space of its own (RFC 8259, section 2). The bytes after the last line feed are a line, too, unless there are none.
  *
  * The struct is a handle, which the library alone writes. Set it to {0}, which holds no reader, before its first call. Free
  * it once. It may be moved, also to another thread. Do not use a copy of it after a call on another copy.
@@ -943,8 +944,8 @@ typedef struct jx_lines {
     void *inside;
 } jx_lines;
 
-/* The kind of a verdict on a line that has no byte, or blanks alone (RFC 8259, section 2). Lines have JX_MAY_BE_CUT, too: for
- * a number, true, false or null that the input ends with, without a line feed or a blank behind it. */
+/* The kind of a verdict on a line that has no byte, or white space alone (RFC 8259, section 2). Lines have JX_MAY_BE_CUT, too: for
+ * a number, true, false or null that the input ends with, without a line feed or white space after it. */
 enum { JX_BLANK = 7 };
 
 /* A line. */
@@ -957,8 +958,8 @@ typedef struct jx_line {
 /* How many lines there are. */
 typedef struct jx_line_counts {
     size_t accepted; /* those that are texts */
-    size_t refused;  /* those that are none, and those that may be cut */
-    size_t blank;    /* those that have no byte, or blanks alone */
+    size_t refused;  /* those that are not valid JSON, and those that may be cut */
+    size_t blank;    /* those that have no byte, or white space alone */
 } jx_line_counts;
 
 uint32_t jx_lines_new_non_null(const jx_settings *settings, jx_lines *lines);
@@ -979,7 +980,7 @@ static inline uint32_t jx_lines_new(const jx_settings *settings, jx_lines *lines
 }
 
 /* Feeds the next bytes of the input. A slice may have any size, including 0, and may end anywhere, including inside a
- * character: what is taken at last is the same for all slices. Lines that end in the slice and are no texts wait then.
+ * character: what is taken at last is the same for all slices. Lines that end in the slice and are not valid JSON wait then.
  *
  * Allocates memory in proportion to the lines that wait and to how deep a line nests. It keeps no byte. After JX_NO_MEMORY
  * the struct holds no reader, and what waited is lost. Returns JX_OK, JX_NO_MEMORY, JX_TOO_MANY_BYTES for 2^64 bytes or more
@@ -991,7 +992,7 @@ static inline uint32_t jx_lines_feed(jx_lines *lines, const uint8_t *bytes, size
     return jx_lines_feed_non_null(lines, bytes == NULL ? none : bytes, size);
 }
 
-/* Moves all lines that wait to `bad`, in order: those that have ended, are no texts, and were not taken before. Writes how
+/* Moves all lines that wait to `bad`, in order: those that have ended, are not valid JSON, and were not taken before. Writes how
  * many they are to `count`, and leaves the rest of `bad` unchanged. More than `room` lines are not moved, and JX_NO_ROOM is
  * returned: `count` says how much room a second call needs. At most one line waits for each byte that was fed since the last
  * call.
@@ -1006,7 +1007,7 @@ static inline uint32_t jx_lines_take(jx_lines *lines, jx_line *bad, size_t room,
 
 /* Reports what is left if the input ends here. Writes the last line to `last`, if no line feed ends it and it is
  * refused; else `last` has the number 0. Writes to `counts` how many lines there are, with that one and those that wait, which a
- * call of jx_lines_take moves. More bytes may be fed behind.
+ * call of jx_lines_take moves. More bytes may be fed after that.
  *
  * Allocates nothing. Returns JX_OK, JX_NO_LINES or JX_NULL_POINTER. */
 static inline uint32_t jx_lines_end(jx_lines *lines, jx_line *last, jx_line_counts *counts) {
@@ -1054,8 +1055,8 @@ static inline uint32_t jx_document_new(const uint8_t *text, size_t size, const j
 }
 
 /* Puts `size` other bytes in the place of those from `start` up to, but not including, `end`. Offsets count the bytes of an
- * ignored byte order mark. An edit may cut a character, an escape or a mark. Any status but JX_OK leaves all bytes as they
- * were.
+ * ignored byte order mark. An edit may cut a character, an escape or a byte order mark. Any status but JX_OK leaves all bytes as
+ * they were.
  *
  * Allocates memory in proportion to the replacement. Returns JX_OK, JX_NO_MEMORY, JX_OUT_OF_BOUNDS, JX_NO_DOCUMENT or
  * JX_NULL_POINTER. */
@@ -1077,7 +1078,7 @@ static inline uint32_t jx_document_verdict(jx_document *document, jx_verdict *ve
     return jx_document_verdict_non_null(document, verdict);
 }
 
-/* Tells how many bytes there are.
+/* Gives how many bytes there are.
  *
  * Allocates nothing. Returns JX_OK, JX_NO_DOCUMENT or JX_NULL_POINTER. */
 static inline uint32_t jx_document_size(jx_document *document, size_t *size) {
@@ -1103,7 +1104,7 @@ static inline void jx_document_free(jx_document *document) {
     if (document != NULL) jx_document_free_non_null(document);
 }
 
-/* A text in parts, on many machines: each part is read by itself and comes to a run, which is bytes to be kept or sent. Runs
+/* A text in parts, on many machines: each part is read by itself and gives a run, its result as bytes to be kept or sent. Runs
  * of neighbours are joined, in any order of joins, up to the run of the whole text, which has the verdict on it. A run has
  * a few KB for most parts. Its bytes are the same on every machine; docs/FORMAT.md says what they are.
  *
@@ -1123,14 +1124,15 @@ static inline void jx_document_free(jx_document *document) {
  *
  * Allocates memory and frees it: some KB, and up to 720 bytes for each closing bracket whose container an earlier part opens, of
  * which a part has at most `depth` (48 MB with JX_DEPTH_MAX). Returns JX_OK, JX_NO_ROOM, JX_NO_MEMORY, JX_DEPTH_TOO_GREAT, or
- * JX_TOO_MANY_BYTES for a part that would end at 2^64 or behind. */
+ * JX_TOO_MANY_BYTES for a part that would end at 2^64 or after it. */
 uint32_t jx_run_of(const uint8_t *part, size_t size, uint64_t from, uint32_t depth, uint8_t *run, size_t room, size_t *run_size);
 
-/* Writes the run of both parts' bytes, those of `right` behind those of `left`, which must end where `right` begins. Joins
- * may be made in any order: (a b) c comes to the verdict of a (b c). `run` and `run_size` as with jx_run_of.
+/* Writes the run of both parts' bytes, those of `right` after those of `left`, which must end where `right` begins. Joins
+ * may be made in any order: (a b) c has the verdict of a (b c). `run` and `run_size` as with jx_run_of.
  *
- * Allocates memory in proportion to the runs, the joined one too, and frees it. Returns JX_OK, JX_NO_ROOM, JX_NO_MEMORY, JX_NOT_A_RUN,
- * JX_OTHER_DEPTH, JX_NOT_NEIGHBOURS, also where one run tells its offset and the other does not, or JX_TOO_MANY_BYTES. */
+ * Allocates memory in proportion to the runs, the joined one too, and frees it. Returns JX_OK, JX_NO_ROOM, JX_NO_MEMORY,
+ * JX_NOT_A_RUN, JX_OTHER_DEPTH, JX_NOT_NEIGHBOURS, also where one run has its offset and the other has none, or
+ * JX_TOO_MANY_BYTES. */
 uint32_t jx_run_join(const uint8_t *left, size_t left_size, const uint8_t *right, size_t right_size, uint8_t *run, size_t room,
                      size_t *run_size);
 

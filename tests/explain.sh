@@ -64,6 +64,7 @@ the_sentence_says_what_could_stand_there() {
     same 'inside a string' '2:4: the text ends inside a string that began at line 2, column 1' "$(sentence '[\n"ab')"
     same 'too deep' '1:3: more than 2 containers open' "$(sentence '[[[' --depth 2)"
     same 'a name that was used' '2:1: the name "a" was used at line 1, column 2' "$(sentence '{"a":1,\n"\\u0061":2}' --unique-names)"
+    same 'a name that was used, among others' '2:1: the name "a" was used at line 1, column 14' "$(sentence '{"0":1,"A":2,"a":1,"b":3,\n"\\u0061":2}' --unique-names)"
 }
 
 the_line_is_shown_with_a_caret() {

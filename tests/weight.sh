@@ -2,13 +2,13 @@
 # The weight of the gate: wrong bodies are not lost, in the gate or beside it; how many proved tests there may be, and where they may stand.
 . "$(dirname "$0")/lib.sh"
 
-# What the gate tries costs its time: a crate with wrong bodies is proved once more. The others are tried beside it.
+# What the gate tries costs its time: a crate with wrong bodies is proved once more. So a few cheap crates have some there.
 wrong_bodies_are_not_lost() {
     local inside beside
     inside=$(find "$root"/crates/*/must-fail -name '*.edit' | wc -l)
     beside=$(sed 's/.* beside the gate: \([0-9]*\) in .*/\1/; q' <<<"$("$root/tools/wrong_bodies" --passed)")
-    same 'there are 160 wrong bodies or more' yes "$([ $((inside + beside)) -ge 160 ] && echo yes || echo "$inside and $beside")"
-    same 'the gate tries 20 or more' yes "$([ "$inside" -ge 20 ] && echo yes || echo "$inside")"
+    same 'there are 200 wrong bodies or more' yes "$([ $((inside + beside)) -ge 200 ] && echo yes || echo "$inside and $beside")"
+    same 'the gate tries 5 or more' yes "$([ "$inside" -ge 5 ] && echo yes || echo "$inside")"
     same 'a crate has its wrong bodies in one place' '' \
         "$(for folder in "$root"/tests/wrong_bodies/*/; do ls "$root/crates/$(basename "$folder")/must-fail" 2>/dev/null; done)"
 }

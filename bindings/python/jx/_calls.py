@@ -21,7 +21,7 @@ def verdict(data: Buffer, depth: int, ignore_bom: bool, unique_names: bool) -> O
 
 
 def compact(data: Buffer, depth: int, ignore_bom: bool, unique_names: bool) -> Union[bytes, Tuple[int, int]]:
-    """The compact form of a text, or the verdict on what is none."""
+    """The compact form of a text, or the verdict on bytes that are not one."""
     asked = settings(depth, ignore_bom, unique_names)
     answer, count = CVerdict(), ctypes.c_size_t()
     with held(data) as (address, size):
@@ -46,7 +46,7 @@ def at(data: Buffer, pointer: str, depth: int, ignore_bom: bool, unique_names: b
 
 
 def index(data: Buffer, depth: int, ignore_bom: bool, unique_names: bool) -> Union[Rows, Tuple[int, int]]:
-    """The rows of a text, or the verdict on what is none."""
+    """The rows of a text, or the verdict on bytes that are not one."""
     rows = Rows(data)
     found = rows._read(settings(depth, ignore_bom, unique_names))
     return rows if found is None else found
@@ -71,7 +71,7 @@ class Rows:
         """Indexes the text. None where it is accepted, else the verdict's kind and offset."""
         answer = CVerdict()
         address, size = self._held.__enter__()
-        # The text is held for as long as the library has the index.
+        # The text is kept for as long as the library has the index.
         self._free = weakref.finalize(self, _free, self._index, self._held)
         done(LIBRARY.jx_index_new_non_null(address, size, ctypes.byref(asked), self._at_index, ctypes.byref(answer)))
         if answer.kind != 0:
@@ -138,7 +138,7 @@ class Rows:
         return (found[-1], len(found)) if found else (0, 0)
 
     def _counted(self) -> int:
-        """How many rows there are: the library tells a row by its number, or that there is none."""
+        """How many rows there are: the library gives a row by its number, or says that there is none."""
         low, high = 1, 1
         while self._is_row(high):
             low, high = high + 1, 2 * high

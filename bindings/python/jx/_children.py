@@ -12,7 +12,7 @@ from ._library import DEPTH_MAX
 Read = Callable[[int, int], bytes]
 # Kind, start and end of a value in the whole text.
 Place = Tuple[int, int, int]
-# The same behind an outcome and the number that goes with it.
+# The same after an outcome and the number that goes with it.
 Answer = Tuple[int, int, int, int, int]
 NOWHERE: Place = (0, 0, 0)
 FOUND, NO_SUCH_MEMBER = 0, 1
@@ -34,7 +34,7 @@ def scalar_of(value: bytes) -> Any:
 
 
 class PartOf(NamedTuple):
-    """A part of a container: its number, its span, its first child and the one behind its last."""
+    """A part of a container: its number, its span, its first child and the one after its last."""
 
     number: int
     start: int
@@ -44,7 +44,7 @@ class PartOf(NamedTuple):
 
 
 class Children:
-    """The children of a container, or some that stand one behind another with brackets around them. They are counted from `first`."""
+    """The children of a container, or some in a row with brackets around them. They are counted from `first`."""
 
     __slots__ = ("first", "count", "_data", "_index", "_start")
 
@@ -178,7 +178,7 @@ def _past_blanks(read: Read, start: int, end: int) -> int:
 
 
 def _before_blanks(read: Read, start: int, end: int) -> int:
-    """Where the blanks at the end begin."""
+    """Where the white space at the end begins."""
     while start < end:
         piece = read(max(start, end - 4096), end)
         rest = len(piece.rstrip(_BLANKS))

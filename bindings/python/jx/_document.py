@@ -37,7 +37,7 @@ class Document:
             self._call(LIBRARY.jx_document_edit_non_null, *places, address, size)
 
     def verdict(self) -> Verdict:
-        """The verdict on all bytes as one text, as `jx.verdict` tells it. There may be several edits before one verdict."""
+        """The verdict on all bytes as one text, as `jx.verdict` gives it. There may be several edits before one verdict."""
         answer = CVerdict()
         self._call(LIBRARY.jx_document_verdict_non_null, ctypes.byref(answer))
         return Verdict._of(answer.kind, answer.offset)

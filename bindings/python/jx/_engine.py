@@ -1,4 +1,4 @@
-"""The calls that have to be fast, in C where `native.c` is built, and else by `ctypes`. `IS_NATIVE` tells which.
+"""The calls that have to be fast, in C where `native.c` is built, and else by `ctypes`. `IS_NATIVE` says which.
 
 The variable JX_PYTHON=ctypes asks for the second, so that tests can compare both.
 """

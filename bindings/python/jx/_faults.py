@@ -1,4 +1,4 @@
-"""Verdicts, and the exceptions that tell them."""
+"""Verdicts, and the exceptions that carry them."""
 from __future__ import annotations
 
 import dataclasses
@@ -10,7 +10,7 @@ _CONTINUATIONS = bytes(range(0x80, 0xC0))
 
 
 class Kind(enum.IntEnum):
-    """What reading bytes as a JSON text (RFC 8259), as an element of a sequence (RFC 7464), or as a line, comes to."""
+    """The verdict on bytes as a JSON text (RFC 8259), as an element of a sequence (RFC 7464), or as a line."""
 
     ACCEPTED = 0
     STOPPED = 1
@@ -68,7 +68,7 @@ class Refused(ValueError):
     """The bytes are not a text that is accepted.
 
     `offset` counts bytes from 0. `lineno` and `colno` count lines and characters from 1, as `json.JSONDecodeError` does; both
-    are None where the bytes in front are gone. A text that ends too early has the offset of its end. `filename` is the path of a file
+    are `None` once the bytes in front are gone. A text that ends too early has the offset of its end. `filename` is the path of a file
     that was checked, and else None.
     """
 
@@ -134,7 +134,7 @@ class BadPointer(ValueError):
 
 
 class BadIndex(ValueError):
-    """The bytes are no saved index, or one of no text."""
+    """The bytes are not a saved index, or not that of any text."""
 
 
 class Stale(ValueError):

@@ -104,7 +104,7 @@ def get_all(
         raise TypeError("get_all takes several pointers, and this is one: pass [%r], or call get" % pointers)
     asked = settings(depth, ignore_bom, unique_names)
     named = list(pointers)
-    # The empty pointer behind them tells whether the bytes are a text.
+    # The empty pointer after them says whether the bytes are a text.
     words = [spelt_pointer(pointer) for pointer in named] + [b""]
     count = len(words)
     spelt = (CPointer * count)(*(CPointer(word, len(word)) for word in words))

@@ -38,7 +38,7 @@ class Finder:
             raise TypeError("a Finder takes several pointers, and this is one: pass [%r]" % pointers)
         asked = settings(depth, ignore_bom, False)
         self._named = list(pointers)
-        # The empty pointer behind them tells whether the bytes are a text.
+        # The empty pointer after them says whether the bytes are a text.
         words = [spelt_pointer(pointer) for pointer in self._named] + [b""]
         spelt = (CPointer * len(words))(*(CPointer(word, len(word)) for word in words))
         self._finder = CFinder()
@@ -50,7 +50,7 @@ class Finder:
         self._free = weakref.finalize(self, _free, self._finder, spelt, words)
 
     def feed(self, chunk: Buffer) -> None:
-        """Reads the bytes behind those it was fed before. A chunk may end anywhere, also inside a character.
+        """Reads the bytes after those it was fed before. A chunk may end anywhere, also inside a character.
 
         After a `MemoryError` or `end` there is no look-up any more: later calls raise `ValueError`.
         """

@@ -294,7 +294,7 @@ class Value:
 
 
 def _decoded(spelling: bytes) -> str:
-    """The name that a string spells, with its quotation marks. A name may have half of a surrogate pair."""
+    """The name that a string encodes, with its quotation marks. A name may have half of a surrogate pair."""
     if b"\\" not in spelling:
         return spelling[1:-1].decode()
     name: str = json.loads(spelling, strict=False)
@@ -306,5 +306,5 @@ def _token(name: str) -> str:
 
 
 def _units(name: str) -> bytes:
-    """A name as its UTF-16 code units, so that each spelling of it is the same."""
+    """A name as its UTF-16 code units, so that each way to write it is the same."""
     return name.encode("utf-16-le", "surrogatepass")

@@ -297,7 +297,7 @@ _NO_BYTES = ctypes.create_string_buffer(1)
 
 @contextlib.contextmanager
 def held(data: Buffer) -> Iterator[tuple[int, int]]:
-    """The address and size of a buffer's bytes. While they are held, the object refuses to be resized or closed."""
+    """The address and size of a buffer's bytes. While they are in use, the object refuses to be resized or closed."""
     if isinstance(data, str):
         raise TypeError("jx reads bytes, and this is a str: pass data.encode()")
     buffer = _PyBuffer()

@@ -31,7 +31,7 @@ class Line:
 
     @property
     def offset(self) -> Optional[int]:
-        """The offset of the fault in the input; None of a line that ends too early, may be cut or is blank."""
+        """The offset of the fault in the input; None of a line that ends too early, may be cut or is empty."""
         return self.verdict.offset if self.kind in (Kind.STOPPED, Kind.TOO_DEEP) else None
 
     @property
@@ -64,7 +64,7 @@ class LineReader:
         self._free = weakref.finalize(self, LIBRARY.jx_lines_free_non_null, ctypes.pointer(self._lines))
 
     def feed(self, chunk: Buffer) -> List[Line]:
-        """Reads the bytes behind those it was fed before, and tells the lines that end there and are not valid JSON.
+        """Reads the bytes after those it was fed before, and gives the lines that end there and are not valid JSON.
 
         A chunk may end anywhere, also inside a character. After a `MemoryError` the reader is lost: later calls raise `ValueError`.
         """
@@ -84,7 +84,7 @@ class LineReader:
 
     @property
     def refused(self) -> int:
-        """How many lines are not valid JSON, or may be cut, if the input ends here. Blank ones are not counted."""
+        """How many lines are not valid JSON, or may be cut, if the input ends here. Empty ones are not counted."""
         return int(self._told()[1].refused)
 
     @property
@@ -125,7 +125,7 @@ class LineReader:
 class Lines(Iterator[Line]):
     """The lines that are not valid JSON, in order, each as soon as it was read. `accepted`, `refused` and `blank` count what was read.
 
-    A file that was opened by its path is closed behind the last line, by `close`, at the end of a `with`, or once nothing refers to the
+    A file that was opened by its path is closed after the last line, by `close`, at the end of a `with`, or once nothing refers to the
     lines.
     """
 
@@ -147,7 +147,7 @@ class Lines(Iterator[Line]):
 
     @property
     def refused(self) -> int:
-        """How many lines are not valid JSON, or may be cut, of what was read. Blank ones are not counted."""
+        """How many lines are not valid JSON, or may be cut, of what was read. Empty ones are not counted."""
         return self._reader.refused
 
     @property
@@ -178,7 +178,7 @@ def _told(reader: LineReader, chunks: Chunks, skip_blank: bool) -> Generator[Lin
 
 
 def lines(data: Buffer, *, depth: int = DEPTH_DEFAULT, ignore_bom: bool = False, skip_blank: bool = False) -> Lines:
-    """The lines of JSON Lines that are no JSON texts (RFC 8259), with their numbers. Without `skip_blank` blank lines are among them."""
+    """The lines of JSON Lines that are not valid JSON (RFC 8259), with their numbers. Without `skip_blank` empty lines are among them."""
     return Lines(slices(view(data)), depth, ignore_bom, skip_blank)
 
 

@@ -57,9 +57,9 @@ def _written(call: Callable[..., int], *words: Any) -> bytes:
 
 
 class Run:
-    """What a part of a text comes to, which may be cut at any byte. Its bytes may be kept, sent or pickled.
+    """The partial result (run) of a part of a text, which may be cut at any byte. Its bytes may be kept, sent or pickled.
 
-    `start` is the offset of the part's first byte in the text. Where it is None, runs are joined in the order in which they are
+    `start` is the offset of the part's first byte in the text. Without it runs are joined in the order in which they are
     passed. At most `depth` containers may be open at once.
     """
 
@@ -82,7 +82,7 @@ class Run:
     def from_bytes(cls, data: Buffer) -> Run:
         """The run that has these bytes, which any machine may have written. Raises `NotARun` where there is none."""
         with held(data) as (address, size):
-            # No part ends before it starts, so a run is told to be of other bytes.
+            # No part ends before it starts, so a run is said to be of other bytes.
             status = LIBRARY.jx_run_verdict(address, size, 1, 0, ctypes.byref(CVerdict()))
             if status != Status.NOT_NEIGHBOURS:
                 _checked(status)

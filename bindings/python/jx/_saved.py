@@ -68,7 +68,7 @@ def save(
 ) -> str:
     """Reads a text once and saves its index, 0.075 % of its size, as FILE.jxi or at the path `index`. Gives that path.
 
-    With `names` tables of the text's names stand behind the index, at most four bytes for each name. By these a look-up reads only the
+    With `names` tables of the text's names follow the index, at most four bytes for each name. By these a look-up reads only the
     chunks of an object that may have the name. The answers are the same.
 
     The file is a path, or is open for reading bytes and then needs `index`. The index is written beside its place and renamed.
@@ -214,7 +214,7 @@ class SavedText:
                 self._give()
                 self._done(LIBRARY.jx_saved_answers_non_null(self._at_saved, told, len(words)))
             except BaseException:
-                # The library forgets the pointers, which are gone behind this call.
+                # The library forgets the pointers, which are gone after this call.
                 LIBRARY.jx_saved_seek_non_null(self._at_saved, spelt, 0)
                 raise
         return [(one.outcome, one.at, one.kind, one.span.start, one.span.end) for one in told]
@@ -275,7 +275,7 @@ class SavedText:
         return (start, end, -1) in self._indexed
 
     def pieces(self, start: int, end: int) -> Iterator[bytes]:
-        """The same, piece by piece."""
+        """The same, part by part."""
         step = max(self.chunk, _STEP)
         low = start // self.chunk * self.chunk
         while low < end:

@@ -14,7 +14,7 @@ from ._library import DEPTH_DEFAULT, LIBRARY, Buffer, CReader, CVerdict, done, h
 
 
 def verdict(data: Buffer, *, depth: int = DEPTH_DEFAULT, ignore_bom: bool = False, unique_names: bool = False) -> Verdict:
-    """Tells whether bytes are a JSON text (RFC 8259), and if not, at which byte they stop being one. A verdict is true where they are.
+    """Checks whether bytes are a JSON text (RFC 8259), and if not, at which byte they stop being one. A verdict is true where they are.
 
     `data` is any buffer: bytes, bytearray, memoryview, mmap. It is not copied. At most `depth` containers may be open at once.
     `ignore_bom` skips a byte order mark in front. `unique_names` refuses a name that an object has twice.
@@ -52,7 +52,7 @@ class Reader:
         done(LIBRARY.jx_reader_start_non_null(ctypes.byref(self._reader), ctypes.byref(asked)))
 
     def feed(self, chunk: Buffer) -> None:
-        """Reads the bytes behind those it was fed before. A chunk may end anywhere, also inside a character."""
+        """Reads the bytes after those it was fed before. A chunk may end anywhere, also inside a character."""
         with held(chunk) as (address, size):
             done(LIBRARY.jx_reader_feed(ctypes.byref(self._reader), address, size))
         self._size += size

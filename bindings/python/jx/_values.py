@@ -22,7 +22,7 @@ class ValueReader:
     """The elements of an array, or the values of an object's members, in a text that comes chunk by chunk: each compact, as `bytes`.
 
     A pointer (RFC 6901) leads to the array or object, by the first member of each of its names. A value comes as soon as the comma or the
-    bracket behind it is read, before the text's first fault. No byte is kept but those of a value or a name that is not whole yet.
+    bracket after it is read, before the text's first fault. No byte is kept but those of a value or a name that is not whole yet.
     """
 
     def __init__(self, pointer: str = "", *, depth: int = DEPTH_DEFAULT, ignore_bom: bool = False):
@@ -42,7 +42,7 @@ class ValueReader:
         self._free = weakref.finalize(self, _free, self._values, spelt)
 
     def feed(self, chunk: Buffer) -> List[bytes]:
-        """Reads the bytes behind those it was fed before, and gives the values that are due then and were not given before.
+        """Reads the bytes after those it was fed before, and gives the values that are due then and were not given before.
 
         A chunk may end anywhere, also inside a character. What was given is never taken back. After a `MemoryError`, `end` or `close` there
         is no stream any more: later calls raise `ValueError`.
@@ -51,7 +51,7 @@ class ValueReader:
             self._done(LIBRARY.jx_values_feed_non_null(ctypes.byref(self._values), address, size))
             self._size += size
             lines = self._taken()
-        # No compact value has a line feed, and one stands behind each.
+        # No compact value has a line feed, and one follows each.
         values = lines.split(b"\n")
         values.pop()
         return values
@@ -127,8 +127,8 @@ def each_file(
 ) -> Generator[bytes, None, None]:
     """The same of a file, by its path or open for reading bytes, or of any chunks of bytes, while they are read.
 
-    Each value comes before more is waited for, as of a pipe or of `sys.stdin.buffer`. No more is held than the largest value and a chunk.
-    A path is opened with the first value, and closed behind the last one or with the generator. `Refused` has no line and column. The
+    Each value comes before more is waited for, as of a pipe or of `sys.stdin.buffer`. No more is kept than the largest value and a chunk.
+    A path is opened with the first value, and closed after the last one or with the generator. `Refused` has no line and column. The
     file's own faults are raised where they happen, and a `BlockingIOError` where it does not block and has no bytes yet.
     """
     reader = ValueReader(pointer, depth=depth, ignore_bom=ignore_bom)
@@ -149,7 +149,7 @@ def _given(reader: ValueReader, chunks: Chunks, whole: Optional[memoryview]) -> 
 
 
 def _why_none(spelt: bytes) -> Tuple[int, int]:
-    """The outcome of a pointer that is none, and its place in it."""
+    """The outcome of a string that is not a pointer, and its place in it."""
     answer, asked = CAnswer(), settings(DEPTH_DEFAULT, False, False)
     with held(b"") as (address, size):
         done(LIBRARY.jx_at_non_null(address, size, spelt, len(spelt), ctypes.byref(asked), ctypes.byref(answer)))

@@ -53,7 +53,7 @@ def open(file: Any, index: Any = None) -> View:
 
     The file is a path, or any object with `seek` and `read` that gives bytes; then `index` is needed. Raises `FileNotFoundError` where
     there is no index, `Stale` where the text has another size than the one that was indexed, and `BadIndex`. A chunk that is read and is
-    not that of the text that was indexed is a `Changed`. Chunks that are not read are not looked at. Where tables of names stand behind the
+    not that of the text that was indexed is a `Changed`. Chunks that are not read are not looked at. Where tables of names follow the
     index, look-ups go by them. Close the view, or use it by `with`.
     """
     text = SavedText(file, index)
@@ -200,7 +200,7 @@ class View:
         return told
 
     def _walk(self, pointer: str) -> Answer:
-        """The same by one token behind another, where no pointer leads here."""
+        """The same by one token after another, where no pointer leads here."""
         try:
             outcome, at, _, _ = _engine.at(b"0", pointer, 0, False, False)
         except UnicodeEncodeError:
@@ -270,7 +270,7 @@ class ArrayView(_Container, Sequence[Any]):
 
     def __init__(self, text: SavedText, pointer: Optional[str], kind: int, start: int, end: int):
         super().__init__(text, pointer, kind, start, end)
-        # Elements that were looked up at once: the more, the longer one is asked for behind another.
+        # Elements that were looked up at once: the more, the longer one is asked for after another.
         self._run = _Run(0, 0, 0, 0)
         self._width, self._next = 1, -1
 
@@ -312,7 +312,7 @@ class ArrayView(_Container, Sequence[Any]):
         return (_PAST_END, *NOWHERE) if found is None else (FOUND, *found)
 
     def _element(self, place: int) -> Optional[Place]:
-        """Where an element stands; None behind the last one."""
+        """Where an element stands; None after the last one."""
         if self._size() <= _NEAR:
             children = self._children()
             return children.place(place) if place < children.count else None
@@ -334,7 +334,7 @@ class ArrayView(_Container, Sequence[Any]):
         return told[2:] if told[0] == FOUND else None
 
     def _run_of(self, low: int, high: int) -> Optional[_Run]:
-        """The elements from one up to another, or to the last one. None where the first is none, or where no pointer leads here."""
+        """The elements from one up to another, or to the last one. None where there is no first one, or where no pointer leads here."""
         first, last = self._by_pointers(["/%d" % low, "/%d" % high])
         if first is None or last is None or first[0] != FOUND:
             return None
@@ -616,7 +616,7 @@ class Part:
 
     @property
     def span(self) -> Tuple[int, int]:
-        """From behind the comma or bracket before its first child, up to the one behind its last."""
+        """From after the comma or bracket before its first child, up to the one after its last."""
         return self._part.start, self._part.end
 
     def __len__(self) -> int:

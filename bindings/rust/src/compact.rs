@@ -3,14 +3,14 @@ use crate::raw;
 use crate::refusal::Refusal;
 use crate::settings::Settings;
 
-/// The compact form of a JSON text: its tokens one behind another, without the white space between them (RFC 8259, section 2). Each
+/// The compact form of a JSON text: its tokens one after another, without the white space between them (RFC 8259, section 2). Each
 /// token keeps its bytes: no number, name or string is written anew. A byte order mark that the settings ignore is left out.
 ///
 /// It takes as much memory as the text has bytes, and reads the text three times: first to check it.
 ///
 /// # Errors
 ///
-/// [`Fault`]: the bytes are not valid by the settings, as [`check`](crate::check) tells, or an allocation failed.
+/// [`Fault`]: the bytes are not valid by the settings, as by [`check`](crate::check), or an allocation failed.
 ///
 /// ```
 /// use jx::Refusal;

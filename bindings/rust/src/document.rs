@@ -78,7 +78,7 @@ impl Error for OpenError {}
 pub enum EditError {
     /// An allocation failed.
     OutOfMemory,
-    /// The range ends before it starts, or behind the last byte.
+    /// The range ends before it starts, or after the last byte.
     OutOfBounds,
 }
 
@@ -107,7 +107,7 @@ impl EditError {
 }
 
 impl Document {
-    /// A document of a copy of the bytes, held to these settings. Names can't have to be unique, since it keeps none.
+    /// A document of a copy of the bytes, read by these settings. Names can't have to be unique, since it keeps none.
     ///
     /// # Errors
     ///
@@ -139,7 +139,7 @@ impl Document {
     ///
     /// # Errors
     ///
-    /// [`EditError`]: an allocation failed, or the range ends before it starts or behind the last byte. Then the document
+    /// [`EditError`]: an allocation failed, or the range ends before it starts or after the last byte. Then the document
     /// is as it was.
     ///
     /// ```
@@ -169,7 +169,7 @@ impl Document {
         })
     }
 
-    /// The verdict on all bytes as one text: the same as [`check`](crate::check) tells by the settings that it was made with. It
+    /// The verdict on all bytes as one text: the same as [`check`](crate::check) gives by the settings that it was made with. It
     /// takes up what edits changed since the last one, so there may be several edits before.
     ///
     /// # Errors
@@ -208,7 +208,7 @@ impl Document {
     ///
     /// # Errors
     ///
-    /// [`EditError`]: an allocation failed, or the range ends before it starts or behind the last byte.
+    /// [`EditError`]: an allocation failed, or the range ends before it starts or after the last byte.
     pub fn copy(&self, range: impl RangeBounds<usize>) -> Result<Vec<u8>, EditError> {
         let (start, end) = self.bounds(range)?;
         if end < start || self.len() < end {

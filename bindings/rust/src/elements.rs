@@ -5,17 +5,17 @@ use std::error::Error;
 use std::fmt;
 use std::ops::Range;
 
-/// What an element of a JSON text sequence comes to (RFC 7464, sections 2.1 and 2.4).
+/// The verdict on an element of a JSON text sequence (RFC 7464, sections 2.1 and 2.4).
 #[derive(Clone, Copy, Debug, PartialEq, Eq, Hash)]
 pub enum ElementVerdict {
     /// It is a text.
     Accepted,
     /// It is not valid JSON. Offsets count from the sequence's start.
     Refused(Refusal),
-    /// Its value is a number, `true`, `false` or `null` with nothing behind it, so it may be the beginning of a longer one
+    /// Its value is a number, `true`, `false` or `null` with nothing after it, so it may be the beginning of a longer one
     /// that was cut.
     MayBeCut,
-    /// It stands before the first record separator.
+    /// It is before the first record separator.
     Unmarked,
 }
 
@@ -35,9 +35,9 @@ impl ElementVerdict {
 /// An element of a JSON text sequence. Spans are byte offsets in the sequence.
 #[derive(Clone, Debug, PartialEq, Eq, Hash)]
 pub struct Element {
-    /// Where it stands: from behind its record separator up to the next one or the end.
+    /// Where it stands: from after its record separator up to the next one or the end.
     pub span: Range<usize>,
-    /// What it comes to.
+    /// The verdict on it.
     pub verdict: ElementVerdict,
 }
 
@@ -78,8 +78,8 @@ fn fill(
     Ok(count)
 }
 
-/// The elements of a JSON text sequence (RFC 7464) by settings, in order, each with where it stands and what it comes to. Between record
-/// separators in a row stands none, and none behind one at the end.
+/// The elements of a JSON text sequence (RFC 7464) by settings, in order, each with its span and its verdict. Between record
+/// separators in a row stands none, and none after one at the end.
 ///
 /// # Errors
 ///

@@ -15,14 +15,14 @@ pub trait ReadAt {
     ///
     /// # Errors
     ///
-    /// What the source tells.
+    /// The size that the source has.
     fn size(&self) -> io::Result<u64>;
 
     /// Fills the buffer with the bytes from an offset on.
     ///
     /// # Errors
     ///
-    /// What the source tells, and [`io::ErrorKind::UnexpectedEof`] where there are fewer bytes.
+    /// The error of the source, and [`io::ErrorKind::UnexpectedEof`] where there are fewer bytes.
     fn read_exact_at(&self, buffer: &mut [u8], from: u64) -> io::Result<()>;
 }
 
@@ -81,11 +81,11 @@ pub enum IndexFault {
     OtherVersion,
     /// They end too early.
     CutShort,
-    /// They are those of no text.
+    /// They are not those of any text.
     Damaged,
-    /// A field is none that an index has.
+    /// They have a field that no index has.
     Malformed,
-    /// They go on behind the last entry.
+    /// They go on after the last entry.
     Longer,
 }
 
@@ -96,7 +96,7 @@ pub enum FileError {
     OutOfMemory,
     /// The text could not be read.
     Read(io::Error),
-    /// What should be an index is none.
+    /// The bytes given as an index are not an index.
     Index(IndexFault),
     /// The text has another size than the one that was indexed. Nothing of it was read.
     OtherSize,
@@ -104,7 +104,7 @@ pub enum FileError {
     Changed(Range<usize>),
     /// The string is not a pointer, or leads to no value.
     Find(FindError),
-    /// The span is empty or ends behind the text, or there is no such number of parts.
+    /// The span is empty or ends after the text, or there is no such number of parts.
     OutOfBounds,
 }
 
@@ -165,10 +165,10 @@ impl FileError {
     }
 }
 
-/// Whole children of an array or an object, one behind another, for one of several loaders.
+/// Whole children of an array or an object, one after another, for one of several loaders.
 #[derive(Clone, Debug, PartialEq, Eq, Hash)]
 pub struct Part {
-    /// From behind the comma or bracket before its first child, up to the one behind its last. With brackets around them, these
+    /// From after the comma or bracket before its first child, up to the one after its last. With brackets around them, these
     /// bytes are a JSON text.
     pub span: Range<usize>,
     /// Which of its container's children it has, counted from 0.
@@ -181,7 +181,7 @@ pub struct Part {
 /// of the text are read.
 ///
 /// An answer is that of the text that was indexed, unless a chunk that is read has the kept digest and other bytes. A changed chunk
-/// that is read is told. Chunks that are not read are not looked at.
+/// that is read is reported. Chunks that are not read are not looked at.
 ///
 /// ```
 /// let text = br#"{"users":[{"name":"Ann"},{"name":"Bo"}]}"#;
@@ -220,7 +220,7 @@ impl<R> fmt::Debug for File<R> {
 
 impl<R: ReadAt> File<R> {
     /// Opens a text by the bytes of its index, which are copied. They are looked at before they are used. Where tables of names stand
-    /// behind the index, look-ups go by them.
+    /// after the index, look-ups go by them.
     ///
     /// # Errors
     ///
@@ -259,7 +259,7 @@ impl<R: ReadAt> File<R> {
     ///
     /// # Errors
     ///
-    /// [`FileError`]: a chunk is changed or could not be read, or an allocation failed. What each pointer leads to is told for each.
+    /// [`FileError`]: a chunk is changed or could not be read, or an allocation failed. The answer to each pointer says where it leads.
     pub fn find_all(
         &mut self,
         pointers: &[&str],
@@ -328,7 +328,7 @@ impl<R: ReadAt> File<R> {
     ///
     /// # Errors
     ///
-    /// [`FileError`]: a chunk is changed or could not be read, an allocation failed, or the span ends behind the text.
+    /// [`FileError`]: a chunk is changed or could not be read, an allocation failed, or the span ends after the text.
     pub fn read(&mut self, span: Range<usize>) -> Result<Vec<u8>, FileError> {
         if span.start > span.end || span.end > self.about.size {
             return Err(FileError::OutOfBounds);

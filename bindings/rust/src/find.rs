@@ -163,7 +163,7 @@ pub fn find(text: &[u8], pointer: &str, settings: impl Into<Settings>) -> Result
 ///
 /// # Errors
 ///
-/// [`OutOfMemory`]: an allocation failed. What each pointer leads to is told for each.
+/// [`OutOfMemory`]: an allocation failed. The answer to each pointer says where it leads.
 ///
 /// ```
 /// use jx::{find_all, FindError};

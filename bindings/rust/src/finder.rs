@@ -133,7 +133,7 @@ impl Finder {
         Ok(finder)
     }
 
-    /// Reads the bytes behind all that it was fed. A slice may end anywhere, also inside a character.
+    /// Reads the bytes after all that it was fed. A slice may end anywhere, also inside a character.
     ///
     /// # Errors
     ///
@@ -145,7 +145,7 @@ impl Finder {
         })
     }
 
-    /// What each pointer leads to in the text of all bytes that it was fed, in their order, as [`crate::find`] tells it.
+    /// What each pointer leads to in the text of all bytes that it was fed, in their order, as [`crate::find`] gives it.
     ///
     /// # Errors
     ///

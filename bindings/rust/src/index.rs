@@ -137,7 +137,7 @@ impl<'a> Index<'a> {
         })
     }
 
-    /// The row with a number, counted from 0 in the order of the values' starts; none behind the last one.
+    /// The row with a number, counted from 0 in the order of the values' starts; none after the last one.
     pub fn row(&self, number: usize) -> Option<Row> {
         let mut row = raw::Row::default();
         // SAFETY: both are borrowed for the call alone. No other call uses the index, as it is not `Sync`.

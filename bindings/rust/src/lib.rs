@@ -53,7 +53,7 @@ pub use values::{each, Each, EachError, Values};
 /// The depth that the program `jx` takes where none is named.
 pub const DEPTH: u16 = 512;
 
-/// Tells whether the bytes are a JSON text (RFC 8259, section 2) by settings, and if not, where they stop being one. It takes
+/// Checks whether the bytes are a JSON text (RFC 8259, section 2) by settings, and if not, where they stop being one. It takes
 /// memory only where names have to be unique.
 ///
 /// # Errors

@@ -8,14 +8,14 @@ use std::fmt;
 use std::io;
 use std::ops::Range;
 
-/// What a line of JSON Lines comes to.
+/// The verdict on a line of JSON Lines.
 #[derive(Clone, Copy, Debug, PartialEq, Eq, Hash)]
 pub enum LineVerdict {
     /// It is a text.
     Accepted,
     /// It is not valid JSON. Offsets count from the input's start.
     Refused(Refusal),
-    /// The input ends with it, and its value is a number, `true`, `false` or `null` with nothing behind it. So it may be the
+    /// The input ends with it, and its value is a number, `true`, `false` or `null` with nothing after it. So it may be the
     /// beginning of a longer one that was cut.
     MayBeCut,
     /// It has no byte, or white space alone (RFC 8259, section 2).
@@ -53,7 +53,7 @@ pub struct Line {
     pub number: usize,
     /// Where it stands, without its line feed.
     pub span: Range<usize>,
-    /// What it comes to.
+    /// The verdict on it.
     pub verdict: LineVerdict,
 }
 
@@ -81,7 +81,7 @@ impl fmt::Display for Line {
 pub struct LineCounts {
     /// Those that are texts.
     pub accepted: usize,
-    /// Those that are none, and those that may be cut.
+    /// Those that are not valid JSON, and those that may be cut.
     pub refused: usize,
     /// Those that have no byte, or white space alone.
     pub blank: usize,
@@ -194,7 +194,7 @@ impl Lines {
         Ok(lines)
     }
 
-    /// Reads the bytes behind all that it was fed. A slice may end anywhere, also inside a character.
+    /// Reads the bytes after all that it was fed. A slice may end anywhere, also inside a character.
     ///
     /// # Errors
     ///
@@ -234,7 +234,7 @@ impl Lines {
         }
     }
 
-    /// What is left to tell if the input ends here: the last line, if no line feed ends it and it is not valid JSON, and how many lines
+    /// The report that is left if the input ends here: the last line, if no line feed ends it and it is not valid JSON, and how many lines
     /// there are, with that one and those that wait. More may be fed.
     ///
     /// # Errors
@@ -283,7 +283,7 @@ pub fn lines(
 /// How many bytes are read at a time, at most.
 const STEP: usize = 64 * 1024;
 
-/// The lines of what is read that are no JSON texts, each before the next read may wait. Behind the first error there is nothing.
+/// The lines of what is read that are no JSON texts, each before the next read may wait. After the first error there is nothing.
 ///
 /// ```
 /// use jx::BadLines;

@@ -115,7 +115,7 @@ impl Default for Values {
     }
 }
 
-/// The pointer is the library's alone; null where it holds no text whose index is made.
+/// The pointer is the library's alone; null where no index is being made.
 #[repr(C)]
 pub struct Save {
     pub inside: *mut c_void,

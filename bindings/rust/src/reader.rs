@@ -97,7 +97,7 @@ impl Reader {
         }
     }
 
-    /// Reads the bytes behind all that it was fed. Behind a fault they are counted and not looked at. A slice may end
+    /// Reads the bytes after all that it was fed. After a fault they are counted and not looked at. A slice may end
     /// anywhere, also inside a character.
     ///
     /// # Errors
@@ -114,7 +114,7 @@ impl Reader {
         }
     }
 
-    /// The verdict on all bytes that it was fed, as one text: the same as [`check`](crate::check) tells by its settings. It may
+    /// The verdict on all bytes that it was fed, as one text: the same as [`check`](crate::check) gives by its settings. It may
     /// be fed on.
     ///
     /// # Errors

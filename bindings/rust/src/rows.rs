@@ -42,7 +42,7 @@ pub struct Row {
     pub name: Option<Range<usize>>,
     /// The place among all rows of the array or object that it stands in; none for the root.
     pub parent: Option<usize>,
-    /// How many values stand before it in its parent.
+    /// How many values are before it in its parent.
     pub place: usize,
 }
 
@@ -87,7 +87,7 @@ fn fill(text: &[u8], settings: &raw::Settings, buffer: &mut [raw::Row]) -> Resul
     }
 }
 
-/// All values of a JSON text (RFC 8259) by settings, in the order of their starts, so that each stands before its children.
+/// All values of a JSON text (RFC 8259) by settings, in the order of their starts, so that each is before its children.
 ///
 /// # Errors
 ///

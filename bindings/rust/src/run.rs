@@ -7,7 +7,7 @@ use std::ops::Range;
 /// So much room is tried first; few runs have more bytes.
 const ROOM: usize = 8192;
 
-/// What a part of a text comes to, as bytes: so the parts of a text may be read on many machines, in any order.
+/// The partial result (run) of a part of a text, as bytes: so the parts of a text may be read on many machines, in any order.
 ///
 /// ```
 /// use jx::{Refusal, Run};
@@ -92,7 +92,7 @@ fn written(call: impl Fn(&mut [u8], &mut usize) -> u32) -> Result<Run, RunError>
 
 impl Run {
     /// Reads a part of a text, which may be cut at any byte. `from` is the offset of its first byte in the text; where none
-    /// is told, runs are joined in the order in which they are given.
+    /// is given, runs are joined in the order in which they are given.
     ///
     /// # Errors
     ///

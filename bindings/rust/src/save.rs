@@ -95,7 +95,7 @@ pub fn save(
     saved(saving, text)
 }
 
-/// The same with tables of the text's names behind the index. By these a look-up reads only the chunks of an object that may have the
+/// The same with tables of the text's names after the index. By these a look-up reads only the chunks of an object that may have the
 /// name. The answers are the same. A name takes at most four bytes of the tables.
 ///
 /// # Errors

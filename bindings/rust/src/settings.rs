@@ -2,7 +2,8 @@ use crate::raw;
 use std::error::Error;
 use std::fmt;
 
-/// What a text is held to besides the grammar. A depth in their place stands for it and the default of the others.
+/// The settings of a reading: what a text has to meet besides the grammar. A depth in their place stands for it and the
+/// default of the others.
 ///
 /// ```
 /// use jx::{check, Fault, Refusal, Settings};

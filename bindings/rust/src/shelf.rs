@@ -64,7 +64,7 @@ pub struct ShelfReader<'a> {
 pub enum PutError<'a> {
     /// Another index stands there. This one is handed back.
     Taken(Index<'a>),
-    /// A growth of memory was refused.
+    /// An allocation failed.
     OutOfMemory,
 }
 
@@ -116,7 +116,7 @@ impl<'a> Shelf<'a> {
     ///
     /// # Errors
     ///
-    /// [`OutOfMemory`]: a growth of memory was refused.
+    /// [`OutOfMemory`]: an allocation failed.
     pub fn new() -> Result<Shelf<'a>, OutOfMemory> {
         let mut handle = Handle(raw::Shelf::default());
         // SAFETY: the struct is borrowed for the call alone.
@@ -135,7 +135,7 @@ impl<'a> Shelf<'a> {
     ///
     /// # Errors
     ///
-    /// [`OutOfMemory`]: a growth of memory was refused.
+    /// [`OutOfMemory`]: an allocation failed.
     pub fn reader(&self) -> Result<ShelfReader<'a>, OutOfMemory> {
         let mut handle = self.handle.lock().unwrap_or_else(PoisonError::into_inner);
         Ok(ShelfReader {
@@ -148,7 +148,7 @@ impl<'a> Shelf<'a> {
     ///
     /// # Errors
     ///
-    /// [`PutError`]: another index stands there, or a growth of memory was refused.
+    /// [`PutError`]: another index stands there, or an allocation failed.
     pub fn put(&self, index: Index<'a>) -> Result<(), PutError<'a>> {
         let mut handle = self.handle.lock().unwrap_or_else(PoisonError::into_inner);
         handle.put(index)
@@ -160,7 +160,7 @@ impl<'a> ShelfReader<'a> {
     ///
     /// # Errors
     ///
-    /// [`PutError`]: another index stands there, or a growth of memory was refused.
+    /// [`PutError`]: another index stands there, or an allocation failed.
     pub fn put(&self, index: Index<'a>) -> Result<(), PutError<'a>> {
         // SAFETY: no other call uses the handle, as the reader is not `Sync`, and no call calls back.
         unsafe { &mut *self.handle.get() }.put(index)
@@ -182,7 +182,7 @@ impl<'a> ShelfReader<'a> {
     ///
     /// # Errors
     ///
-    /// [`FindError`]: the pointer is none, or leads to no value.
+    /// [`FindError`]: the pointer is not a JSON Pointer, or leads to no value.
     pub fn find(&self, pointer: &str) -> Option<Result<Value<'a>, FindError>> {
         let text = self.text()?;
         let mut answer = raw::Answer::default();
@@ -199,7 +199,7 @@ impl<'a> ShelfReader<'a> {
         }))
     }
 
-    /// The row with a number in the index on the shelf; none behind the last one, or where no index stands there.
+    /// The row with a number in the index on the shelf; none after the last one, or where no index stands there.
     pub fn row(&self, number: usize) -> Option<Row> {
         let mut row = raw::Row::default();
         // SAFETY: both are borrowed for the call alone. No other call uses the handle, as the reader is not `Sync`.

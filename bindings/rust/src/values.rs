@@ -81,7 +81,7 @@ impl From<EachError> for io::Error {
 ///
 /// A pointer (RFC 6901) leads to the array or object, by the first member of each of its names. Compact is a value without the white
 /// space between its tokens (RFC 8259, section 2); each token keeps its bytes. A value is due once the comma or the bracket behind
-/// it is read, before the text's first fault. What is due stays due, whatever comes behind it.
+/// it is read, before the text's first fault. What is due stays due, whatever comes after it.
 ///
 /// ```
 /// use jx::{Each, EachError, FindError, Refusal};
@@ -151,7 +151,7 @@ impl Each {
         Ok(each)
     }
 
-    /// Reads the bytes behind all that it was fed. A slice may end anywhere, also inside a character.
+    /// Reads the bytes after all that it was fed. A slice may end anywhere, also inside a character.
     ///
     /// # Errors
     ///
@@ -163,7 +163,7 @@ impl Each {
         })
     }
 
-    /// The values that are due and were not taken before, in their order: each compact, with a line feed behind it.
+    /// The values that are due and were not taken before, in their order: each compact, with a line feed after it.
     ///
     /// # Errors
     ///
@@ -217,7 +217,7 @@ impl io::Write for Each {
     }
 }
 
-/// Why a string is not a pointer: that is told before a text is read.
+/// Why a string is not a pointer: reported before a text is read.
 fn why_none(pointer: &str, settings: Settings) -> FindError {
     find(b"", pointer, settings).expect_err("nothing is no text")
 }
@@ -298,8 +298,8 @@ impl<R: io::Read> Iterator for Values<R> {
 /// The elements of the array that a pointer (RFC 6901) leads to in what is read, or the values of the object's members: each
 /// compact, before more is read than is needed. A slice of bytes is an input too.
 ///
-/// Values come while the text is read, so a fault comes behind them: the last item is an [`EachError`] where the input is not valid JSON, a
-/// read failed, or the pointer leads to no array or object. [`Each`] tells which values are given then. Behind the first error there
+/// Values come while the text is read, so a fault comes after them: the last item is an [`EachError`] where the input is not valid JSON, a
+/// read failed, or the pointer leads to no array or object. [`Each`] says which values are given then. After the first error there
 /// is nothing.
 ///
 /// # Errors

@@ -1,4 +1,4 @@
--- What a rule on the names of objects makes of answers on elements.
+-- Answers on elements by a rule on the names of objects.
 use Rattle.std.specs.Prelude.{◌≡◌, ℕ, Option, None, Some}
 use Rattle.jx_run.specs.declared.texts.settings.NameRule.{NameRule}
 use Rattle.jx_run.specs.declared.texts.verdict.Refusal.TheVariants.{RepeatedName}

@@ -1,4 +1,4 @@
--- What pointers come to in an index.
+-- Answers to pointers in an index.
 use Rattle.std.specs.Prelude.{◌≡◌, ℕ, List, Option, Some, Result, Ok, Err, All, slice_get}
 use Rattle.jx_lex.specs.declared.kind.Kind.{Kind}
 use Rattle.jx_summary.specs.declared.span.Span.{Span}

@@ -1,4 +1,4 @@
--- What a rule on names makes of the verdict on an element that stands in an input.
+-- The verdict on an element of an input by a rule on names.
 use Rattle.std.specs.Prelude.{List, ℕ}
 use Rattle.jx_run.specs.declared.sequences.element_verdict.JudgedElement.{JudgedElement}
 use Rattle.jx_run.specs.declared.texts.settings.Settings.{Settings}

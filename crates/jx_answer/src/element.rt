@@ -2,17 +2,17 @@ use jx_index::Indexed;
 use jx_lex::Span;
 use jx_run::Refusal;
 
-/// What reading an element of a JSON text sequence comes to.
+/// The answer on an element of a JSON text sequence.
 #[derive(Debug, Drop)]
 pub enum ElementAnswer<'a> {
     /// It is a text within the depth; this is its index, whose spans are in the whole input.
     Accepted(Indexed<'a>),
-    /// It is no text within the depth. Offsets are in the whole input.
+    /// It is not valid JSON within the depth. Offsets are in the whole input.
     Refused(Refusal),
-    /// Its value is a number, `true`, `false` or `null` with nothing behind it, so it may be the beginning of a longer one
-    /// that was cut (RFC 7464, section 2.4).
+    /// Its value is a number, `true`, `false` or `null` with nothing after it, so it may be the beginning of a longer
+    /// one that was cut (RFC 7464, section 2.4).
     MayBeCut,
-    /// It stands before the first record separator.
+    /// It is before the first record separator.
     Unmarked,
 }
 

@@ -1,7 +1,7 @@
 use jx_index::{FindFault, NodeId};
 use jx_lex::{Kind, Span};
 
-/// What a pointer comes to in an index.
+/// The answer to a pointer in an index.
 #[derive(Clone, Copy, Debug, PartialEq, Eq)]
 pub enum Answer {
     /// It leads to this node, which stands there in the whole input.

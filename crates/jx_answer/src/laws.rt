@@ -22,8 +22,8 @@ use jx_run::{
     verdict_by_settings_is_one, verdict_is_one,
 };
 
-/// A text has one answer within a depth, and an input one list of elements. Two cuttings, two numbers of workers or two gates
-/// never give two, neither in the verdict nor in a row.
+/// A text has one answer within a depth, and an input one list of elements. Two divisions, two numbers of workers or
+/// two gates never give two, neither in the verdict nor in a row.
 pub fn answers_are_one()
     ensures text { (text : List ℕ) (depth : ℕ) (x y : TextAnswer) → IsAnswer text depth x → IsAnswer text depth y → x ≡ y }
     ensures elements { (input : List ℕ) (depth : ℕ) (xs ys : List Element) → AreElements input depth xs → AreElements input depth ys → xs ≡ ys }

@@ -1,4 +1,4 @@
-//! Blocks of a JSON text: the marks among 63 of 64 bytes, as words of bits.
+//! Blocks of a JSON text: the token starts among 63 of 64 bytes, as words of bits.
 #![tactic(auto)]
 
 mod cutting;

@@ -1,6 +1,6 @@
-// What a block gives.
+// The result of reading a block.
 
-/// The marks among the first bytes of a block. Bit k of a word stands for byte k of the block.
+/// The token starts among the first bytes of a block. Bit k of a word stands for byte k of the block.
 #[derive(Clone, Copy, Debug, PartialEq, Eq)]
 pub struct Masks {
     /// How many bytes were read: at least 1, at most 63.

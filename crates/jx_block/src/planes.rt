@@ -23,7 +23,7 @@ pub(crate) fn backslashes(block: u8x64) -> u64
     block.simd_eq(u8x64::splat(b'\\')).to_bitmask()
 }
 
-/// What may stand behind a backslash, other than `u`, where any byte is escaped.
+/// Bytes that may follow a backslash, other than `u`, where any byte is escaped.
 #[inline(always)]
 pub(crate) fn letters_where(block: u8x64, escaped: u64) -> u64
     ensures { (escaped ≡ 0) ⊎ (result ≡ mask_l (map is_escaped block)) }
@@ -34,7 +34,7 @@ pub(crate) fn letters_where(block: u8x64, escaped: u64) -> u64
     letters(block)
 }
 
-/// What may stand behind a backslash, other than `u`.
+/// Bytes that may follow a backslash, other than `u`.
 #[inline(always)]
 fn letters(block: u8x64) -> u64
     ensures { result ≡ mask_l (map is_escaped block) }
@@ -49,7 +49,7 @@ fn letters(block: u8x64) -> u64
         | block.simd_eq(u8x64::splat(b't'))).to_bitmask()
 }
 
-/// What is no ordinary ASCII of a string.
+/// Bytes that are no ordinary ASCII of a string.
 #[inline(always)]
 pub(crate) fn others(block: u8x64) -> u64
     ensures { result ≡ mask_l (map (λ byte. not (is_plain byte)) block) }
@@ -59,7 +59,7 @@ pub(crate) fn others(block: u8x64) -> u64
         | (block - u8x64::splat(0x20)).simd_ge(u8x64::splat(0x60))).to_bitmask()
 }
 
-/// Blanks.
+/// White space.
 #[inline(always)]
 pub(crate) fn blanks(block: u8x64) -> u64
     ensures { result ≡ mask_l (map is_blank block) }

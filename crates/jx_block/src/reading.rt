@@ -17,9 +17,10 @@ pub(crate) const BLOCK: usize = 64;
 
 /// Reads the first bytes of the 64 that follow an offset, from between tokens to between tokens: at most 63.
 ///
-/// It gives nothing where fewer than 64 bytes follow, where the first byte is one that it leaves to [`jx_lex::scan`], and where
-/// the first token is a string that does not end among them. It stops before a byte above 7F, a control character, a `\u`
-/// escape, a fault, a scalar that touches the end of the block or has no comma, closing bracket, space or line's end behind it.
+/// It gives nothing where fewer than 64 bytes follow, where the first byte is one that it leaves to [`jx_lex::scan`],
+/// and where the first token is a string that does not end among them. It stops before a byte above 7F, a control
+/// character, a `\u` escape, a fault, a scalar that touches the end of the block or has no comma, closing bracket,
+/// space or line's end after it.
 pub fn read_tokens(text: &[u8], at: usize) -> Option<Masks>
     requires { at ≤ length text.now }
     ensures bounds { IfSome result (λ masks. (0 < masks.len) × (masks.len < 64) × (at + masks.len ≤ length text.now)) }
@@ -35,7 +36,7 @@ pub fn read_tokens(text: &[u8], at: usize) -> Option<Masks>
     let (blanks, structurals) = (blanks(block), structurals(block));
     let escaped = behind_odd_runs(backslashes);
     let real = !escaped & quotes;
-    // Bit k says that a string goes on behind byte k, or begins with it.
+    // Bit k says that a string goes on after byte k, or begins with it.
     let inside = prefix_xor(real);
     let before = inside << 1;
     let scalars = !(before | blanks | structurals | quotes);

@@ -18,7 +18,7 @@ fn is_scalar(text: &[u8], from: usize, to: usize) -> bool
     pass_number(text, from, text.len()) == to
 }
 
-/// The place behind the run of bits that begins at one, or 64 where the run reaches the end of the word.
+/// The place after the run of bits that begins at one, or 64 where the run reaches the end of the word.
 #[inline(always)]
 fn run_end(word: u64, k: usize) -> usize
     requires { k < 64 }
@@ -33,7 +33,7 @@ fn run_end(word: u64, k: usize) -> usize
     k + from.trailing_ones() as usize
 }
 
-/// Whether the byte is one that mostly stands behind a number or a literal.
+/// Whether the byte is one that mostly follows a number or a literal.
 #[inline(always)]
 fn is_stop(byte: u8) -> bool
     ensures { IsTrue result → is_stop byte ≡ true }

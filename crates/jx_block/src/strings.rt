@@ -5,15 +5,15 @@ ghost use Rattle.jx_lex.specs.inside.Bits.{bit};
 /// The bits with an even place.
 const EVEN: u64 = 0x5555_5555_5555_5555;
 
-/// Which bytes stand behind an odd number of backslashes: of each run of backslashes the first, the third and so on escape
-/// the byte behind them. The first byte is behind none.
+/// Which bytes follow an odd number of backslashes: of each run of backslashes the first, the third and so on escape
+/// the byte after them. The first byte is after none.
 #[inline(always)]
 pub(crate) fn behind_odd_runs(backslashes: u64) -> u64
     ensures first { bit result 0 ≡ false }
 {
     let behind = backslashes << 1;
     let odd_starts = backslashes & !EVEN & !behind;
-    // The sum runs through each run that begins at an odd place, up to the byte behind it.
+    // The sum runs through each run that begins at an odd place, up to the byte after it.
     (EVEN ^ (odd_starts.wrapping_add(backslashes) << 1)) & behind
 }
 

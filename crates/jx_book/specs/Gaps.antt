@@ -12,7 +12,7 @@ pub record AreGaps (runs : List Span) (span : Span) (gaps : List Span) : Type 0 
   pub apart : AllPairs (λ g h. Before g h) gaps
   pub uncovered : (p : ℕ) → Any (λ g. Covers g p) gaps ↔ (Covers span p × All (λ r. ¬ (Covers r p)) runs)
 
--- the gaps from an offset up to an end, before and between these runs and behind the last
+-- the gaps from an offset up to an end, before and between these runs and after the last
 abbrev pub gaps_from : ℕ → List Span → ℕ → List Span
 gaps_from at [] end = if nat_lt at end then span at end ∷ [] else []
 gaps_from at (r ∷ rs) end = if nat_lt at (min r.start end) then span at (min r.start end) ∷ gaps_from (max at r.end) rs end else gaps_from (max at r.end) rs end

@@ -13,7 +13,7 @@ pub record IsRest {S : Type 0} (text : List ℕ) (depth start : ℕ) (h : HeldVa
 abbrev pub IsWhole : {S : Type 0} → List ℕ → ℕ → HeldValue S → Type 0
 IsWhole text depth h = IsRest text depth 0 h
 
--- none exactly where there is no piece, and otherwise the run over the text from the front on
+-- none exactly where there is no chunk, and otherwise the run over the text from the front on
 abbrev pub IsGathered : {S : Type 0} → List Span → List ℕ → ℕ → ℕ → Option (HeldValue S) → Type 0
 IsGathered ps text depth front None = length ps ≡ 0
 IsGathered ps text depth front (Some h) = (0 < length ps) × IsRest text depth front h

@@ -1,4 +1,4 @@
--- The hand-over machine: each piece is undrawn, in one hand, or in one stored block.
+-- The hand-over machine: each chunk is untaken, in one hand, or in one stored block.
 use Rattle.std.specs.Prelude.{◌≡◌, ℕ, zero, suc, ◌+◌, Bool, true, false, List, [], ◌∷◌, sum_by, nat_lt, nat_le, ◌&&◌, if◌then◌else◌}
 use mathlib.Core.Option.{some}
 use lib.ListN.{get_elem?, set}
@@ -14,7 +14,7 @@ pub data Deed : Type 0 where
   take_neighbour : ℕ → Deed
   stop : ℕ → Deed
 
--- what it holds, no block or one, and whether it has stopped; a block is neighbouring pieces, from `start` up to `end`
+-- what it holds, no block or one, and whether it has stopped; a block is neighbouring chunks, from `start` up to `end`
 pub record Worker : Type 0 where
   pub hand : List Span
   pub stopped : Bool
@@ -38,15 +38,15 @@ NoneTouch a (b ∷ bs) = (¬ (Touch a b)) × NoneTouch a bs
 abbrev pub joined : Span → Span → Span
 joined a b = if nat_lt a.start b.start then span a.start b.end else span b.start a.end
 
--- a block that touches no stored one becomes stored; a book's `put` does this to the spans of its runs
+-- a block that touches no stored one becomes stored; an accumulator's `put` does this to the spans of its runs
 abbrev pub Stores : List Span → Span → List Span → Type 0
 Stores old b new = NoneTouch b old × With b old new
 
--- a stored block n that touches b leaves the store; a book's `put` does this to the spans of its runs
+-- a stored block n that touches b leaves the store; an accumulator's `put` does this to the spans of its runs
 abbrev pub Takes : List Span → Span → Span → List Span → Type 0
 Takes old b n new = With n new old × Touch n b
 
--- a draw takes any undrawn piece; a `draw` of claims does this to the pieces that its word leaves undrawn
+-- a step takes any untaken chunk; a `draw` of claims does this to the chunks that its word leaves untaken
 abbrev pub Steps : Machine → Deed → Machine → Type 0
 Steps s (draw w) t =
     (p : ℕ) × (less : List ℕ) × Draws s.undrawn p less × (get_elem? s.workers w ≡ some (worker [] false))
@@ -69,11 +69,11 @@ abbrev pub idle : ℕ → List Worker
 idle zero = []
 idle (suc n) = worker [] false ∷ idle n
 
--- all pieces are undrawn
+-- all chunks are untaken
 abbrev pub start : ℕ → ℕ → Machine
 start n workers = machine (undrawn 0 n) (idle workers) []
 
--- in how many places a piece is
+-- in how many places a chunk is
 abbrev pub in_block : ℕ → Span → ℕ
 in_block p b = if nat_le b.start p && nat_lt p b.end then 1 else 0
 
@@ -87,18 +87,18 @@ abbrev pub NoTwoTouch : List Span → Type 0
 NoTwoTouch [] = Unit {0}
 NoTwoTouch (b ∷ bs) = NoneTouch b bs × NoTwoTouch bs
 
--- one block with all pieces, or none where there are no pieces
+-- one block with all chunks, or none where there are no chunks
 abbrev pub whole_of : ℕ → List Span
 whole_of zero = []
 whole_of (suc n) = span 0 (suc n) ∷ []
 
 pub record IsSound (n : ℕ) (t : Machine) : Type 0 where
-  -- each piece is in exactly one place
+  -- each chunk is in exactly one place
   pub in_one_place : (p : ℕ) → places t p ≡ once_below p n
   pub apart : NoTwoTouch t.stored
-  -- where all are drawn and all hands are empty, one block holds all pieces
+  -- where all are taken and all hands are empty, one block holds all chunks
   pub whole : t.undrawn ≡ [] → ((p : ℕ) → in_hands p t.workers ≡ 0) → t.stored ≡ whole_of n
 
--- for every number of pieces and of workers, and every list of deeds
+-- for every number of chunks and of workers, and every list of deeds
 abbrev pub Core : Type 0
 Core = (n workers : ℕ) (deeds : List Deed) (t : Machine) → Leads (start n workers) deeds t → IsSound n t

@@ -1,4 +1,4 @@
--- What a join of two runs gives.
+-- The result of a join of two runs.
 use Rattle.std.specs.Prelude.{◌≡◌, ◌≢◌, ◌⊎◌, ℕ, ◌-◌, ◌<◌, ◌≤◌, List, length, slice_range, if◌then◌else◌, nat_lt}
 use Rattle.jx_book.specs.declared.stored.held.HeldFault.{HeldFault}
 use Rattle.jx_book.specs.declared.stored.held.HeldFault.TheVariants.{Memory, Other}

@@ -1,4 +1,4 @@
--- What a put does to a state.
+-- The effect of a put on a state.
 use Rattle.std.specs.Prelude.{◌≡◌, ℕ, ◌+◌, ◌<◌, ◌≤◌, ◌^◌, ◌⊎◌, List, length, insert, remove, All, Any, Some, slice_get, slice_index_or}
 use Rattle.jx_summary.specs.declared.span.Span.{Span}
 use Rattle.jx_book.specs.declared.stored.state.Put.{Put}
@@ -21,7 +21,7 @@ module _ {S : Type 0} where
   abbrev pub IsNeighbour : List (HeldValue S) → Span → ℕ → HeldValue S → Type 0
   IsNeighbour runs a k n = (slice_get runs k ≡ Some n) × ((n.span.end ≡ a.start) ⊎ ((n.span.start ≡ a.end) × NoLeft runs a))
 
-  -- it neither overlaps nor touches a run, and stands before the run at k
+  -- it neither overlaps nor touches a run, and is before the run at k
   pub record IsFree (runs : List (HeldValue S)) (a : Span) (k : ℕ) : Type 0 where
     pub bound : k ≤ length runs
     pub below : (i : ℕ) (d : HeldValue S) → i < k → Before (slice_index_or runs i d).span a

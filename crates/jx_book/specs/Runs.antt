@@ -1,4 +1,4 @@
--- What contracts see of a run with its text, and of the runs in a book.
+-- A run with its text, and the runs in an accumulator, as contracts see them.
 use Rattle.std.specs.Prelude.{◌≡◌, ℕ, ◌+◌, ◌<◌, List, map, sum_by, All, AllPairs}
 use Rattle.jx_summary.specs.declared.span.Span.{Span}
 use Rattle.jx_book.specs.Spans.{span_len, Before}

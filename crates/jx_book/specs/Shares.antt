@@ -1,4 +1,4 @@
--- What shares have put and taken, and what a book gives when it is finished.
+-- The bytes that each `Share` has put and taken, and what an accumulator gives when it is finished.
 use Rattle.std.specs.Prelude.{◌≡◌, ◌⊎◌, ℕ, ◌+◌, ◌<◌, ◌≤◌, List, length}
 use Rattle.jx_book.specs.declared.stored.state.Put.{Put}
 use Rattle.jx_book.specs.declared.stored.state.Put.TheVariants.{Stored, Touches, Overlaps, Full, Memory}

@@ -1,4 +1,4 @@
--- What a worker has done.
+-- The work that a worker has done.
 use Rattle.std.specs.Prelude.{◌≡◌, ℕ, ◌+◌, ◌<◌, ◌≤◌, List, [], ◌∷◌, ◌++◌, slice_index_or}
 use Rattle.jx_summary.specs.declared.span.Span.{Span}
 use Rattle.jx_claim.specs.Claimed.{SeatValue}
@@ -37,7 +37,7 @@ HasSpan a (Piece p) = ⊥
 HasSpan a (One r) = Within a r.span
 HasSpan a (Two l r) = (l.span.end ≡ r.span.start) × (l.span.start < l.span.end) × (r.span.start < r.span.end) × Within a (span l.span.start r.span.end)
 
--- a piece in the hand is the one that the seat got last, and runs in the hand have all of that piece
+-- a chunk in the hand is the one that the worker handle got last, and runs in the hand have all of that chunk
 abbrev pub IsLeft : {S : Type 0} → List Span → List ℕ → Hand S → Type 0
 IsLeft ps got (Piece p) = EndsWith got p.0
 IsLeft ps got hand = (p : ℕ) × EndsWith got p × HasSpan (slice_index_or ps p no_span) hand
@@ -53,8 +53,8 @@ MayLeave Other (Two l r) = Unit {0}
 MayLeave Full (One r) = Unit {0}
 MayLeave cause hand = ⊥
 
--- the seat is the same one and has got more numbers, or none, and the bytes of the pieces that it drew meanwhile are what the share put meanwhile, minus
--- what it took, plus what is left in the hand
+-- the worker handle is the same one and has got more numbers, or none, and the bytes of the chunks that it drew
+-- meanwhile are what the share put meanwhile, minus what it took, plus what is left in the hand
 pub record Worked (ps : List Span) (seat : SeatValue) (s : ShareValue) (now : SeatValue) (t : ShareValue) (left : ℕ) : Type 0 where
   pub id : now.id ≡ seat.id
   pub number : now.number ≡ seat.number

@@ -1,4 +1,4 @@
-//! Runs with their text, the book that threads share, and the workers that fill it.
+//! Runs with their text, the accumulator that threads share, and the workers that fill it.
 #![tactic(auto)]
 
 mod lock;

@@ -1,4 +1,5 @@
-// The book behind its lock: the shares that put runs there and take them out, and what is gathered when all are back.
+// The accumulator behind its lock: each `Share` puts runs there and takes them out, and the result is gathered when all
+// are back.
 pub(crate) mod book;
 pub(crate) mod gathering;
 pub(crate) mod locked;

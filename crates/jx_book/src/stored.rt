@@ -1,4 +1,4 @@
-// Runs with the text that they were read from, what lies between them, and the runs that stand in the book.
+// Runs with the text that they were read from, what lies between them, and the runs that stand in the accumulator.
 pub(crate) mod assembling;
 pub(crate) mod closed;
 pub(crate) mod gaps;

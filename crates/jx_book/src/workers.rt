@@ -1,4 +1,4 @@
-// The workers: each reads pieces and hands its run over, until nothing is left or a gate stops it.
+// The workers: each reads chunks and hands its run over, until nothing is left or a gate stops it.
 pub(crate) mod errand;
 pub(crate) mod reading;
 pub(crate) mod worker;

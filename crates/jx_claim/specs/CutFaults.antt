@@ -15,7 +15,7 @@ IsRising cuts i = 0 < i → slice_index cuts (i - 1) < slice_index cuts i
 abbrev pub AreSound : ℕ → List ℕ → ℕ → Type 0
 AreSound len cuts n = (i : ℕ) → i < n → IsInside len cuts i × IsRising cuts i
 
--- the first fault of the cuts; without one, too many pieces; without these, want of memory
+-- the first fault of the cuts; without one, too many chunks; without these, out of memory
 abbrev pub Refuses : ℕ → List ℕ → CutFault → Type 0
 Refuses len cuts (Outside i) = (i < length cuts) × AreSound len cuts i × ((slice_index cuts i ≡ 0) ⊎ (len ≤ slice_index cuts i))
 Refuses len cuts (NotRising i) = (i < length cuts) × AreSound len cuts i × IsInside len cuts i × (0 < i) × (slice_index cuts i ≤ slice_index cuts (i - 1))

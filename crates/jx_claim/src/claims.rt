@@ -11,7 +11,8 @@ use jx_crew::{PieceNo, Workers};
 use std::alloc::{AllocError, Global};
 use std::marker::{Brand, Model};
 
-/// The pieces that are left to be drawn: one word, the number that the next draw finds. Threads share it by reference.
+/// A chunk queue: the chunks that are left to be taken, in one word, the number that the next worker finds. Threads
+/// share it by reference.
 #[derive(Drop)]
 pub struct Claims {
     table: Table<(), View, Terms, ClaimRule, Global>,
@@ -33,7 +34,7 @@ impl Model for Claims {
 }
 
 impl Claims {
-    /// Claims on the pieces below a count, and one seat for each worker. It fails only for want of memory.
+    /// Claims on the chunks below a count, and one worker handle for each worker. It fails only when out of memory.
     pub fn open(
         alloc: Global,
         pieces: u32,
@@ -58,7 +59,7 @@ impl Claims {
         Ok((claims, seats))
     }
 
-    /// Cuts the first seat into one for each worker.
+    /// Cuts the first worker handle into one for each worker.
     fn seats(&self, alloc: Global, mut rest: Seat<(), View>) -> Result<Vec<ClaimSeat>, AllocError>
         requires { (rest.table_id ≡ self.now.id) × (rest.me ≡ (view self.now.workers [] 0, [])) }
         ensures len { IfOk result (λ v. vec_len v ≡ self.now.workers) }
@@ -74,7 +75,7 @@ impl Claims {
         Ok(seats)
     }
 
-    /// One atomic step of a seat: the number that it finds, and one more in the word.
+    /// One atomic step of a worker handle: the number that it finds, and one more in the word.
     fn take<C: Count>(&self, seat: &mut Seat<(), View>) -> u64
         requires pieces { C.pieces ≡ self.now.pieces }
         requires seat { (seat.old.table_id ≡ self.now.id) × (seat.old.me.0.seats ≡ 1) × (seat.old.me.0.nones ≡ 0) }
@@ -85,10 +86,10 @@ impl Claims {
         self.table.shared.fetch_add::<DrawStep<C>>(seat, 0, 1)
     }
 
-    /// Draws the next piece, or `None` where all pieces had been drawn. It takes no memory and waits for nobody.
-    /// It is one atomic step on the word that it finds, which all numbers that the seat got before are below: where the
-    /// word is a piece, it is the first undrawn one, and the draw leaves the others undrawn; else none is undrawn. That no
-    /// other seat gets the same number is told by `close`.
+    /// Takes the next chunk, or `None` where all chunks had been taken. It takes no memory and waits for nobody. It is
+    /// one atomic step on the word that it finds, which all numbers that the worker handle got before are below: where
+    /// the word is a chunk, it is the first untaken one, and the step leaves the others untaken; else none is untaken.
+    /// That no other worker handle gets the same number is shown by `close`.
     pub fn draw(&self, seat: &mut ClaimSeat) -> Option<PieceNo>
         requires seat { seat.old.id ≡ self.now.id }
         requires unspent { seat.old.spent ≡ false }
@@ -106,8 +107,9 @@ impl Claims {
         }
     }
 
-    /// Takes all seats back. The numbers that they got are those below the count that it names, each in one seat once;
-    /// where a seat got `None`, that count is the number of pieces. It takes no memory and waits for nobody.
+    /// Takes all worker handles back. The numbers that they got are those below the count that it names, each in one
+    /// worker handle once; where a worker handle got `None`, that count is the number of chunks. It takes no memory and
+    /// waits for nobody.
     pub fn close(self, mut seats: Vec<ClaimSeat>) -> Drawn
         requires all { AllSeats self seats.items }
         ensures some { 0 < length seats.items }

@@ -10,7 +10,7 @@ use jx_summary::Span;
 use std::alloc::{AllocError, Global};
 use std::marker::Model;
 
-/// A text of a known length, cut into pieces. They are not empty, stand in order and cover the text from its front on.
+/// A text of a known length, cut into chunks. They are not empty, stand in order and cover the text from its front on.
 /// The front is 0 unless `without_front` set it. There are at most 4,294,967,295 of them, and none where nothing is
 /// left to cover.
 #[derive(Debug, Drop)]
@@ -35,8 +35,8 @@ impl Model for Cutting {
 }
 
 impl Cutting {
-    /// Pieces of `size` bytes each, but the last may have fewer. It takes no memory, and is refused with
-    /// `TooManyPieces` exactly where there would be more than 4,294,967,295 pieces.
+    /// Chunks of `size` bytes each, but the last may have fewer. It takes no memory, and is refused with
+    /// `TooManyPieces` exactly where there would be more than 4,294,967,295 chunks.
     pub fn every(len: usize, size: usize) -> Result<Cutting, CutFault>
         requires { 1 ≤ size }
         ensures len { IfOk result (λ c. c.len ≡ len) }
@@ -60,8 +60,8 @@ impl Cutting {
         })
     }
 
-    /// Pieces that meet exactly at these cuts, which are byte offsets. Each must be above 0, below the length
-    /// (`Outside`) and above the one before it (`NotRising`); where they are, more than 4,294,967,295 pieces are
+    /// Chunks that meet exactly at these cuts, which are byte offsets. Each must be above 0, below the length
+    /// (`Outside`) and above the one before it (`NotRising`); where they are, more than 4,294,967,295 chunks are
     /// `TooManyPieces`, and `Memory` comes last.
     pub fn at(alloc: Global, len: usize, cuts: &[usize]) -> Result<Cutting, CutFault>
         ensures len { IfOk result (λ c. c.len ≡ len) }
@@ -95,7 +95,7 @@ impl Cutting {
         })
     }
 
-    /// The same cutting once more. It takes memory where the pieces were given by their cuts, and none where they were
+    /// The same division once more. It takes memory where the chunks were given by their cuts, and none where they were
     /// given by a size.
     pub fn copy(&self, alloc: Global) -> Result<Cutting, AllocError>
         ensures { IfOk result (λ c. c ≡ self.now) }
@@ -108,8 +108,8 @@ impl Cutting {
         })
     }
 
-    /// The same pieces without the first `front` bytes of the text: those that end there or before it are left out, and
-    /// one that goes on behind it begins there. It takes no memory.
+    /// The same chunks without the first `front` bytes of the text: those that end there or before it are left out, and
+    /// one that goes on after it begins there. It takes no memory.
     pub fn without_front(self, front: usize) -> Cutting
         requires from { self.front ≤ front }
         requires within { front ≤ self.len }
@@ -141,7 +141,7 @@ impl Cutting {
         self.len
     }
 
-    /// Where the first piece begins, in bytes from the start of the text; the length, where there is no piece.
+    /// Where the first chunk begins, in bytes from the start of the text; the length, where there is no chunk.
     pub fn front(&self) -> usize
         ensures front { result ≡ self.now.front }
         ensures within { result ≤ self.now.len }
@@ -149,7 +149,7 @@ impl Cutting {
         self.front
     }
 
-    /// How many pieces there are.
+    /// How many chunks there are.
     pub fn count(&self) -> u32
         ensures count { result ≡ length self.now.pieces }
         ensures none { self.now.len ≡ 0 → result ≡ 0 }
@@ -157,7 +157,7 @@ impl Cutting {
         (self.pieces.count() - self.skipped) as u32
     }
 
-    /// The piece of this number, which is below the count.
+    /// The chunk of this number, which is below the count.
     pub fn piece(&self, piece: PieceNo) -> Span
         requires { piece.0 < length self.now.pieces }
         ensures piece { slice_get self.now.pieces piece.0 ≡ Some result }
@@ -192,7 +192,7 @@ fn check(len: usize, cuts: &[usize]) -> Result<(), CutFault>
     Ok(())
 }
 
-/// Where the pieces end that meet at these cuts.
+/// Where the chunks end that meet at these cuts.
 fn ends_at(alloc: Global, len: usize, cuts: &[usize]) -> Result<Vec<usize>, AllocError>
     ensures { IfOk result (λ v. v.items ≡ cuts.now ++ len ∷ []) }
 {

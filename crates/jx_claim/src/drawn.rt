@@ -1,6 +1,6 @@
-/// What claims tell when they are closed.
+/// The answer of a chunk queue that is closed.
 #[derive(Clone, Copy, Debug, PartialEq, Eq)]
 pub struct Drawn {
-    /// How many pieces were drawn.
+    /// How many chunks were taken.
     pub pieces: u32,
 }

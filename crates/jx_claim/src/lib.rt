@@ -1,4 +1,4 @@
-//! Who reads which piece: cuttings of a text into pieces, and claims, from which workers draw each piece once.
+//! Who reads which chunk: divisions of a text into chunks, and claims, from which workers take each chunk once.
 #![tactic(auto)]
 
 mod claims;

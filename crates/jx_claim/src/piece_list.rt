@@ -1,4 +1,4 @@
-// How a cutting keeps its pieces: regular ones by their size, others by where they end.
+// How a division keeps its chunks: regular ones by their size, others by where they end.
 ghost use Rattle.std.specs.Prelude.{◌≡◌, ℕ, ◌+◌, ◌*◌, ◌<◌, ◌≤◌, ◌∷◌, min, length, Some, IfOk, slice_get, slice_index};
 ghost use Rattle.jx_claim.specs.Cut.{span, Tiles};
 ghost use Rattle.jx_claim.specs.inside.Listed.{listed, between, IsRegular, AreEnded};
@@ -6,17 +6,17 @@ ghost use Rattle.jx_claim.specs.inside.Listed.{listed, between, IsRegular, AreEn
 use jx_summary::Span;
 use std::alloc::{AllocError, Global};
 
-/// The pieces of a cutting, in order.
+/// The chunks of a division, in order.
 #[derive(Debug, Drop)]
 pub enum PieceList {
-    /// `count` pieces of `size` bytes each, but the last may have fewer.
+    /// `count` chunks of `size` bytes each, but the last may have fewer.
     Every { size: usize, count: u32 },
-    /// Where each piece ends: at the cuts, and the last one at the length.
+    /// Where each chunk ends: at the cuts, and the last one at the length.
     At { ends: Vec<usize> },
 }
 
 impl PieceList {
-    /// How many pieces there are.
+    /// How many chunks there are.
     pub fn count(&self) -> usize
         ensures { (len : ℕ) → result ≡ length (listed len self.now) }
     {
@@ -26,7 +26,7 @@ impl PieceList {
         }
     }
 
-    /// The piece of this number, of a text of this length.
+    /// The chunk of this number, of a text of this length.
     pub fn piece(&self, len: usize, number: usize) -> Span
         requires low { number < length (listed len self.now) }
         requires regular { IsRegular len self.now }
@@ -38,7 +38,7 @@ impl PieceList {
         }
     }
 
-    /// The same pieces once more.
+    /// The same chunks once more.
     pub fn copy(&self, alloc: Global) -> Result<PieceList, AllocError>
         ensures same { IfOk result (λ copy. (len : ℕ) → listed len copy ≡ listed len self.now) }
         ensures regular { IfOk result (λ copy. (len : ℕ) → IsRegular len self.now → IsRegular len copy) }
@@ -54,7 +54,7 @@ impl PieceList {
         }
     }
 
-    /// How many pieces of a text of this length end at an offset or before it.
+    /// How many chunks of a text of this length end at an offset or before it.
     pub fn ended(&self, len: usize, offset: usize) -> usize
         requires covers { Tiles 0 (listed len self.now) len }
         requires regular { IsRegular len self.now }
@@ -74,7 +74,7 @@ impl PieceList {
     }
 }
 
-/// How many of the pieces that end at these offsets end at an offset or before it.
+/// How many of the chunks that end at these offsets end at an offset or before it.
 fn ended_between(ends: &[usize], offset: usize) -> usize
     requires { (len : ℕ) × Tiles 0 (between 0 ends.now) len }
     ensures { AreEnded offset result (between 0 ends.now) }
@@ -86,7 +86,7 @@ fn ended_between(ends: &[usize], offset: usize) -> usize
     ended
 }
 
-/// The piece of this number among those of `size` bytes.
+/// The chunk of this number among those of `size` bytes.
 fn regular_piece(len: usize, size: usize, number: usize) -> Span
     requires { number * size < len }
     ensures { result ≡ span (number * size) (min (number * size + size) len) }
@@ -98,7 +98,7 @@ fn regular_piece(len: usize, size: usize, number: usize) -> Span
     }
 }
 
-/// The piece of this number among those that end at these offsets.
+/// The chunk of this number among those that end at these offsets.
 fn piece_between(ends: &[usize], number: usize) -> Span
     requires { number < length ends.now }
     ensures { result ≡ span (slice_index (0 ∷ ends.now) number) (slice_index ends.now number) }

@@ -1,24 +1,24 @@
-// What the claim word and the seats keep, and the three kinds of atomic step that may be taken on them.
+// The invariant of the claim word and the worker handles, and the three kinds of atomic step that may be taken on them.
 use atomic_table::{Join, Play, Split, TableRule};
 use std::collections::LinkedList;
 use std::marker::{Brand, PhantomData};
 
-/// What claims are told when they are opened.
+/// The arguments with which a chunk queue is opened.
 #[derive(Drop)]
 pub struct Terms {
     pub pieces: u32,
     pub workers: u8,
 }
 
-/// What a seat knows: for how many seats it stands, the numbers that it got, and how often it got `None`. No value of
-/// it is ever made: it stands in proofs alone.
+/// The knowledge of a worker handle: for how many worker handles it stands, the numbers that it got, and how often it
+/// got `None`. No value of it is ever made: it is used in proofs alone.
 pub struct View {
     pub seats: u64,
     pub got: LinkedList<u64>,
     pub nones: u64,
 }
 
-/// The rule of the table that holds the claim word: of which views a seat may be, and the first one.
+/// The rule of the table that holds the claim word: of which views a worker handle may be, and the first one.
 pub struct ClaimRule;
 
 impl TableRule<(), View, Terms> for ClaimRule {
@@ -30,7 +30,7 @@ impl TableRule<(), View, Terms> for ClaimRule {
     ghost first = { λ k. view k.workers [] 0 };
 }
 
-/// How many pieces there are, for a step, which cannot read the table's terms. A call picks it.
+/// How many chunks there are, for a step, which cannot read the table's terms. A call picks it.
 pub trait Count {
     ghost use Rattle.std.specs.Prelude.{ℕ};
 
@@ -43,7 +43,7 @@ impl Count for Brand {
     ghost pieces = { 0 };
 }
 
-/// The step of a draw.
+/// The step that takes a chunk.
 pub struct DrawStep<C> {
     of: PhantomData<C>,
 }
@@ -54,7 +54,7 @@ impl<C: Count> Play<(), View> for DrawStep<C> {
     ghost then = { DrawsFrom C.pieces };
 }
 
-/// The step that cuts one seat off those for which a seat stands.
+/// The step that cuts one worker handle off those for which a worker handle stands.
 pub struct CutSeat;
 
 impl Split<View> for CutSeat {
@@ -66,7 +66,7 @@ impl Split<View> for CutSeat {
     ghost right = { λ v. view 1 [] 0 };
 }
 
-/// The step that joins a seat to another; the one joined away stands for no seat and holds nothing.
+/// The step that joins a worker handle to another; the one joined away stands for no worker handle and holds nothing.
 pub struct JoinSeats;
 
 impl Join<View> for JoinSeats {

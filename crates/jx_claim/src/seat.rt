@@ -6,7 +6,7 @@ use crate::rule::View;
 use atomic_table::Seat;
 use std::marker::Model;
 
-/// One worker's right to draw pieces of the claims that gave it.
+/// One worker's right to take chunks of the claims that gave it.
 #[derive(Drop)]
 pub struct ClaimSeat {
     pub(crate) seat: Seat<(), View>,
@@ -28,7 +28,7 @@ impl Model for ClaimSeat {
 }
 
 impl ClaimSeat {
-    /// A seat that has drawn nothing, at its place among the seats.
+    /// A worker handle that has taken nothing, at its place among the worker handles.
     pub(crate) fn new(seat: Seat<(), View>, number: usize) -> ClaimSeat
         requires { seat.me ≡ (view 1 [] 0, []) }
         ensures { result ≡ fresh_seat seat.table_id number }
@@ -47,7 +47,7 @@ impl ClaimSeat {
         self.number
     }
 
-    /// Whether it got `None`, after which it draws no more.
+    /// Whether it got `None`, after which it takes no more.
     pub fn spent(&self) -> bool
         ensures { result ≡ self.now.spent }
     {

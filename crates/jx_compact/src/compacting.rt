@@ -1,4 +1,4 @@
-// The tokens of a value, one behind another.
+// The tokens of a value, one after another.
 ghost use Rattle.std.specs.Prelude.{◌≡◌, ◌+◌, ◌≤◌, ◌++◌, IfOk, length, vec_len, vec_capacity};
 ghost use Rattle.jx_compact.specs.Compact.{compact, compact_from, kept, place_behind};
 
@@ -19,8 +19,8 @@ fn push_kept(out: &mut Vec<u8>, place: Place, byte: u8)
     }
 }
 
-/// Appends the bytes that stay, where the first one stands there, and answers where the byte behind them stands. There is room
-/// for all of them, so that no memory is taken.
+/// Appends the bytes that stay, where the first one stands there, and answers where the byte after them stands. There
+/// is room for all of them, so that no memory is taken.
 pub fn compact_onto(out: &mut Vec<u8>, place: Place, bytes: &[u8]) -> Place
     requires { vec_len out.old + length bytes.now ≤ vec_capacity out.old }
     ensures items { out.new.items ≡ out.old.items ++ compact_from place bytes.now }
@@ -35,7 +35,8 @@ pub fn compact_onto(out: &mut Vec<u8>, place: Place, bytes: &[u8]) -> Place
     place
 }
 
-/// The bytes of a value without the blanks between its tokens (RFC 8259, section 2). Each token has the bytes that it had.
+/// The bytes of a value without the white space between its tokens (RFC 8259, section 2). Each token has the bytes that
+/// it had.
 pub fn compact(alloc: Global, bytes: &[u8]) -> Result<Vec<u8>, AllocError>
     ensures { IfOk result (λ out. out.items ≡ compact bytes.now) }
 {

@@ -3,17 +3,17 @@ ghost use Rattle.jx_compact.specs.declared.place.Place.{Place};
 ghost use Rattle.jx_compact.specs.declared.place.Place.TheVariants.{Between};
 ghost use Rattle.jx_compact.specs.Compact.{compact, compact_from, place_behind, HasPlainStrings, IsNoControl};
 
-/// What is compact stays as it is.
+/// Compact bytes stay as they are.
 pub fn compact_is_compact()
     ensures { (bytes : List ℕ) → compact (compact bytes) ≡ compact bytes }
 {}
 
-/// What stays of bytes and of those behind them is what stays of both, wherever the cut falls.
+/// The compact form of bytes, and of those after them, is the compact form of both, wherever the cut falls.
 pub fn compact_goes_on()
     ensures { (place : Place) (front back : List ℕ) → compact_from place (front ++ back) ≡ compact_from place front ++ compact_from (place_behind place front) back }
 {}
 
-/// What is compact has no tab, line feed or carriage return, where none stands in a string. A JSON string has none raw (RFC
+/// The compact form has no tab, line feed or carriage return, unless a string has one. A JSON string has none raw (RFC
 /// 8259, section 7).
 pub fn compact_is_one_line()
     ensures { (bytes : List ℕ) → HasPlainStrings Between bytes → All IsNoControl (compact bytes) }

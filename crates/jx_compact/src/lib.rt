@@ -1,4 +1,4 @@
-//! The compact form of a JSON value: its tokens, one behind another, each with the bytes that it has.
+//! The compact form of a JSON value: its tokens, one after another, each with the bytes that it has.
 #![tactic(auto)]
 
 mod compacting;

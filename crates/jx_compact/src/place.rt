@@ -9,7 +9,7 @@ pub enum Place {
     Between,
     /// In a string.
     Inside,
-    /// In a string, behind a backslash.
+    /// In a string, after a backslash.
     Escaped,
 }
 
@@ -35,7 +35,7 @@ pub fn is_kept(place: Place, byte: u8) -> bool
     }
 }
 
-/// Where the byte behind a byte stands.
+/// Where the byte after a byte stands.
 pub fn next(place: Place, byte: u8) -> Place
     ensures { result ≡ next place byte }
 {

@@ -25,7 +25,7 @@ pub fn compact_len(bytes: &[u8]) -> usize
     len
 }
 
-/// Puts a byte behind those that stand in front, where it stays, and answers how many stand there then.
+/// Puts a byte after those that stand in front, where it stays, and answers how many stand there then.
 fn put_kept(out: &mut [u8], len: usize, place: Place, byte: u8) -> usize
     requires { len + length (kept place byte) ≤ length out.old }
     ensures len { result ≡ len + length (kept place byte) }
@@ -40,8 +40,8 @@ fn put_kept(out: &mut [u8], len: usize, place: Place, byte: u8) -> usize
     }
 }
 
-/// Puts the compact form of a value at the front of a buffer that has room for it, and answers how many bytes it has. A buffer
-/// as long as the value has room. What stands behind it stays as it was.
+/// Puts the compact form of a value at the front of a buffer that has room for it, and answers how many bytes it has. A
+/// buffer as long as the value has room. The rest stays as it was.
 pub fn compact_into(bytes: &[u8], out: &mut [u8]) -> usize
     requires { length (compact bytes.now) ≤ length out.old }
     ensures len { result ≡ length (compact bytes.now) }

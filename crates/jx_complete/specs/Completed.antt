@@ -1,4 +1,4 @@
--- Texts in the place of bytes that are none.
+-- Texts in place of bytes that are not valid JSON.
 use Rattle.std.specs.Prelude.{◌≡◌, ℕ, ◌<◌, List, length, take}
 use Rattle.jx_run.specs.Settings.{byte_order_mark, IsDocumentBy, JudgedBy}
 use Rattle.jx_run.specs.Tree.{Tree}
@@ -7,7 +7,7 @@ use Rattle.jx_run.specs.declared.texts.verdict.Refusal.TheVariants.{Stopped, Tru
 use Rattle.jx_run.specs.declared.texts.verdict.Verdict.{Verdict}
 use Rattle.jx_run.specs.declared.texts.verdict.Verdict.TheVariants.{Accepted, Refused}
 
--- how many bytes stand before the fault that a verdict tells: all of them where it tells none, or where more has to follow
+-- how many bytes are before the fault of a verdict: all of them where it has none, or where more has to follow
 abbrev pub before_fault : ℕ → Verdict → ℕ
 before_fault long Accepted = long
 before_fault long (Refused Truncated) = long

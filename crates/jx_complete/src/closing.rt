@@ -6,7 +6,7 @@ use jx_lex::LexState;
 use jx_reduce::{Expect, Holder};
 use std::alloc::AllocError;
 
-/// What ends the token that a state is in. A number ends before the space.
+/// Bytes that end the token that a state is in. A number ends before the space.
 fn finish(state: LexState) -> &'static [u8]
     ensures { result.now ≡ finish state }
 {
@@ -46,7 +46,7 @@ fn finish(state: LexState) -> &'static [u8]
     }
 }
 
-/// What is due where this may stand next, up to the end of a value.
+/// Bytes that complete a value from this expectation on.
 fn fill(expect: Expect) -> &'static [u8]
     ensures { result.now ≡ fill expect }
 {
@@ -74,7 +74,7 @@ fn shut(out: &mut Vec<u8>, mut holders: Vec<Holder>) -> Result<(), AllocError>
     Ok(())
 }
 
-/// Adds fixed bytes that end a text, behind bytes whose reading came to this.
+/// Adds fixed bytes that end a text, after bytes whose reading led to this.
 pub(crate) fn end_text(
     out: &mut Vec<u8>,
     state: LexState,

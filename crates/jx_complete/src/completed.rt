@@ -1,4 +1,4 @@
-// What stands before the fault of a text, completed.
+// The bytes before the fault of a text, completed.
 ghost use Rattle.std.specs.Prelude.{◌≡◌, None, IfOk, IfSome};
 ghost use Rattle.jx_complete.specs.Completed.{before_fault, IsCompleted, IsCutInMark};
 ghost use Rattle.jx_complete.specs.inside.Ended.{IsEnded, IsEndedMark};
@@ -16,11 +16,11 @@ use std::alloc::{AllocError, Global};
 #[derive(Debug, Drop)]
 pub struct Completed {
     pub text: Vec<u8>,
-    /// How many bytes stand before the fault: the text begins with them. All where there is no fault.
+    /// How many bytes are before the fault: the text begins with them. All where there is no fault.
     pub kept: usize,
 }
 
-/// Where a reading of all bytes came to.
+/// Where a reading of all bytes led to.
 #[derive(Drop)]
 struct Reached {
     progress: Progress,
@@ -38,7 +38,7 @@ fn read_all(alloc: Global, bytes: &[u8], settings: &Settings) -> Result<Reached,
     Ok(Reached { progress, stack })
 }
 
-/// How many bytes stand before the fault that a verdict tells.
+/// How many bytes are before the fault of a verdict.
 fn before_fault(length: usize, verdict: Verdict) -> usize
     ensures { result ≡ before_fault length verdict }
 {
@@ -75,9 +75,9 @@ fn ended(
     }
 }
 
-/// A text that begins with the bytes before the fault (RFC 8259): it ends the token, the value and the containers that stand open
-/// there, and where there is no fault it is the bytes. What names objects have is of no account. None where the bytes before
-/// the fault begin a byte order mark, and no more. `Err` where memory is refused.
+/// A text that begins with the bytes before the fault (RFC 8259): it ends the token, the value and the containers that
+/// stand open there, and where there is no fault it is the bytes. What names objects have is ignored. None where the
+/// bytes before the fault begin a byte order mark, and no more. `Err` when out of memory.
 pub fn complete(
     alloc: Global,
     bytes: Vec<u8>,

@@ -1,4 +1,4 @@
-//! Texts in the place of bytes that are none: what stands before the fault, with fixed bytes that end it.
+//! Texts in place of bytes that are not valid JSON: the bytes before the fault, with fixed bytes that end them.
 #![tactic(auto)]
 
 mod closing;

@@ -2,14 +2,14 @@ ghost use Rattle.std.specs.Prelude.{◌≡◌, false};
 
 use crate::piece_no::PieceNo;
 
-/// A step of a worker. `worker` is its seat's number.
+/// A step of a worker. `worker` is its worker handle's number.
 #[derive(Clone, Copy, Debug)]
 pub enum Event {
-    /// It drew a piece.
+    /// It drew a chunk.
     Drew { worker: usize, piece: PieceNo },
-    /// The run in its hand stands in the book now.
+    /// The run in its hand stands in the accumulator now.
     Stored { worker: usize },
-    /// It took a neighbour of the run in its hand out of the book.
+    /// It took a neighbour of the run in its hand out of the accumulator.
     Took { worker: usize },
 }
 

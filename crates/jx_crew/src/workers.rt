@@ -2,7 +2,7 @@ ghost use Rattle.std.specs.Prelude.{◌≡◌, ◌<◌, ◌≤◌, ◌↔◌, Is
 
 use std::marker::Model;
 
-/// How many workers share the pieces, 1 to 64.
+/// How many workers share the chunks, 1 to 64.
 #[derive(Clone, Copy, Debug, PartialEq, Eq)]
 pub struct Workers {
     count: u8,
@@ -21,7 +21,7 @@ impl Model for Workers {
 }
 
 impl Workers {
-    /// That many workers, where there are 1 to 64; none otherwise.
+    /// A count of 1 to 64 workers; none for any other count.
     pub fn new(count: u8) -> Option<Workers>
         ensures valid { IsSome result ↔ ((0 < count) × (count ≤ 64)) }
         ensures value { IfSome result (λ w. w ≡ count) }

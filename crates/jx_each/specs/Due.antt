@@ -1,5 +1,5 @@
--- Which elements of an input are due, and the line of each. An element is due once the comma or the bracket behind it was
--- read, before the first fault: of what begins a text, whatever goes on with it.
+-- Which elements of an input are due, and the line of each. An element is due once the comma or the bracket after it
+-- was read, before the first fault: of what begins a text, whatever goes on with it.
 use Rattle.std.specs.Prelude.{◌≡◌, ℕ, suc, List, [], ◌∷◌, ◌++◌, ◌==◌, ◌&&◌, codes, drop, take, filter, flat_map, if◌then◌else◌, nat_lt, slice_range, Bool, true, false, Option, Some, None}
 use Rattle.jx_compact.specs.Compact.{compact, is_no_blank}
 use Rattle.jx_lex.specs.declared.kind.Kind.{Kind}
@@ -22,7 +22,7 @@ abbrev pub first_by : (Option Span → ℕ → Bool) → ℕ → Children → Op
 first_by test n no_children = None
 first_by test n (child name tree more) = if test name n then Some tree else first_by test (suc n) more
 
--- a token names the element behind so many others
+-- a token names the element after so many others
 abbrev pub is_number : List ℕ → ℕ → Bool
 is_number token n = is_index token && (value_after 0 token == n)
 
@@ -95,7 +95,7 @@ is_container (node kind.Null span below) = false
 abbrev pub value_of : List ℕ → Tree → List ℕ
 value_of text tree = compact (slice_range text (span_of tree).start (span_of tree).end)
 
--- a name as it is spelt
+-- a name as it is written
 abbrev pub name_of : List ℕ → Option Span → List ℕ
 name_of text None = []
 name_of text (Some span) = slice_range text span.start span.end
@@ -105,18 +105,18 @@ abbrev pub element_line : LineContent → List ℕ → Element → List ℕ
 element_line Alone text element = value_of text element.tree ++ 0x0a ∷ []
 element_line Named text element = codes "{\"name\":" ++ name_of text element.name ++ codes ",\"value\":" ++ value_of text element.tree ++ codes "}\n"
 
--- the offset of the first byte that is no blank, of those from an offset on
+-- the offset of the first byte that is no white space, of those from an offset on
 abbrev pub past_blanks : ℕ → List ℕ → ℕ
 past_blanks at [] = at
 past_blanks at (byte ∷ bytes) = if is_no_blank byte then at else past_blanks (suc at) bytes
 
--- the offset of the comma or the bracket behind it
+-- the offset of the comma or the bracket after it
 abbrev pub behind : List ℕ → Element → ℕ
 behind text element = past_blanks (span_of element.tree).end (drop (span_of element.tree).end text)
 
 -- ---- all
 
--- the lines of those whose comma or bracket stands before an offset
+-- the lines of those whose comma or bracket is before an offset
 abbrev pub lines_before : LineContent → List ℕ → ℕ → List Element → List ℕ
 lines_before content text k elements = flat_map (element_line content text) (filter (λ (element : Element). nat_lt (behind text element) k) elements)
 

@@ -1,4 +1,4 @@
--- What a contract sees of a maker of lines, and what it has taken.
+-- A maker of lines as contracts see it, and what it has taken.
 use Rattle.std.specs.Prelude.{◌≡◌, ℕ, List, ◌++◌, take, Option, Some, None}
 use Rattle.jx_run.specs.Reader.{ReaderValue, HasRead}
 use Rattle.jx_run.specs.Settings.{IsLongestBeginningBy}
@@ -15,9 +15,9 @@ pub record EachValue : Type 0 where
   pub path : List (List ℕ)
   -- what a line has
   pub content : LineContent
-  -- where the byte behind them stands; none where memory was refused
+  -- where the byte after them stands; none when out of memory
   pub stand : Option LineStand
-  -- the lines that wait, and what is kept of the element or the name behind them
+  -- the lines that wait, and what is kept of the element or the name after them
   pub ready : List ℕ
   pub part : List ℕ
 
@@ -37,6 +37,6 @@ pub record HasTakenBy (content : LineContent) (pointer bytes given : List ℕ) (
 abbrev pub HasTaken : List ℕ → List ℕ → List ℕ → EachValue → Type 0
 HasTaken pointer bytes given each = HasTakenBy Alone pointer bytes given each
 
--- memory was refused, and every slice will be
+-- out of memory: every further slice fails
 abbrev pub HasFailed : EachValue → Type 0
 HasFailed each = each.stand ≡ None

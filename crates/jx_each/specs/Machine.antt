@@ -24,7 +24,7 @@ pub record Aim : Type 0 where
 abbrev pub aimed : LineContent → List (List ℕ) → Aim
 aimed content path = record { path = path; content = content }
 
--- where the next byte stands, the whole lines so far, and what is kept of the element or the name behind them
+-- where the next byte stands, the whole lines so far, and what is kept of the element or the name after them
 pub record Made : Type 0 where
   pub stand : LineStand
   pub lines : List ℕ
@@ -36,7 +36,7 @@ begun = record { stand = record { place = Between; height = 0; stage = Ahead 0; 
 
 -- ---- where the next byte stands
 
--- a name's string spells a token
+-- a name's string encodes a token
 abbrev pub is_spelt : List ℕ → List ℕ → Bool
 is_spelt string token = is_eq (slice_cmp nat_cmp (chars_units InText 0 (between_marks string)) token)
 
@@ -59,7 +59,7 @@ abbrev pub at_member : LineContent → Option (List ℕ) → ℕ → Stage
 at_member content None level = in_object content
 at_member content (Some token) level = Members level
 
--- behind a name and its colon
+-- after a name and its colon
 abbrev pub at_value : Option (List ℕ) → ℕ → List ℕ → Stage
 at_value None level name = Members level
 at_value (Some token) level name = if is_spelt name token then Ahead (suc level) else Members level
@@ -111,7 +111,7 @@ name_next Past = Name
 name_next Next = Name
 name_next Stay = Name
 
--- and behind it
+-- and after it
 abbrev pub pair_next : Turn → Stage
 pair_next Next = Name
 pair_next Leave = Over
@@ -142,7 +142,7 @@ begins_part (Ahead level) = false
 begins_part (Elements level n) = false
 begins_part Over = false
 
--- whether a value that is written begins behind a colon
+-- whether a value that is written begins after a colon
 abbrev pub begins_value : Stage → Bool
 begins_value Object = true
 begins_value Pair = true
@@ -153,7 +153,7 @@ begins_value (Ahead level) = false
 begins_value (Elements level n) = false
 begins_value Over = false
 
--- by the stage behind the byte
+-- by the stage after the byte
 abbrev pub takes_next : Stage → Bool → Turn → Bool
 takes_next stage takes EnterArray = begins_part stage
 takes_next stage takes EnterObject = begins_part stage
@@ -231,7 +231,7 @@ part_at (Ahead level) = []
 part_at (Elements level n) = []
 part_at Over = []
 
--- behind the colon, by the stage in front of it
+-- after the colon, by the stage in front of it
 abbrev pub part_of_value : Stage → List ℕ → List ℕ
 part_of_value Name part = part ++ codes ",\"value\":"
 part_of_value Array part = []
@@ -242,7 +242,7 @@ part_of_value (Ahead level) part = []
 part_of_value (Elements level n) part = []
 part_of_value Over part = []
 
--- behind a byte that leads from one stage to another
+-- after a byte that leads from one stage to another
 abbrev pub part_next : Turn → LineStand → Stage → List ℕ → ℕ → List ℕ
 part_next Stay stand stage part byte = part ++ (if stand.takes then kept stand.place byte else [])
 part_next EnterArray stand stage part byte = part_at stage
@@ -262,7 +262,7 @@ step aim made byte =
       part = part_next turn made.stand stand.stage made.part byte;
     }
 
--- what is made behind some bytes
+-- what is made after some bytes
 abbrev pub run : Aim → Made → List ℕ → Made
 run aim made [] = made
 run aim made (byte ∷ bytes) = run aim (step aim made byte) bytes

@@ -4,7 +4,7 @@ use Rattle.jx_each.specs.declared.section.Section.{Section}
 use Rattle.jx_each.specs.Machine.{Aim, run}
 use Rattle.jx_each.specs.inside.Paths.{count_in}
 
--- the bytes of its span come to these lines, where the first one stands there and the front was kept before it
+-- the bytes of its span lead to these lines, where the first one stands there and the front was kept before it
 pub record IsSection (aim : Aim) (slice : List ℕ) (s : Section) : Type 0 where
   pub ordered : s.span.start ≤ s.span.end
   pub within : s.span.end ≤ length slice

@@ -1,4 +1,4 @@
--- What the structural bytes of a text do to its open containers (RFC 8259, section 2).
+-- The effect of a text's structural bytes on its open containers (RFC 8259, section 2).
 use Rattle.std.specs.Prelude.{ℕ, zero, suc, List, [], ◌∷◌, ◌==◌, if◌then◌else◌}
 use Rattle.jx_compact.specs.declared.place.Place.{Place}
 use Rattle.jx_compact.specs.declared.place.Place.TheVariants.{Between, Inside, Escaped}
@@ -39,7 +39,7 @@ turn_at Between height byte = turn_by height (sign_of byte)
 turn_at Inside height byte = turns.Stay
 turn_at Escaped height byte = turns.Stay
 
--- how many containers are open behind it
+-- how many containers are open after it
 abbrev pub turned : ℕ → Sign → ℕ
 turned height sign.OpenArray = suc height
 turned height sign.OpenObject = suc height

@@ -1,4 +1,5 @@
-// Where strings and escapes stand among 64 bytes, and where brackets, blanks, commas and colons stand outside of strings.
+// Where strings and escapes stand among 64 bytes, and where brackets, white space, commas and colons stand outside of
+// strings.
 ghost use Rattle.std.specs.Prelude.{◌≡◌, ◌+◌, ◌-◌, ◌≤◌, ◌<◌, ◌==◌, ◌&&◌, ℕ, suc, not, true, false, get_or, length, map, IfSome};
 ghost use Rattle.std.specs.Simd.Lanes.{mask_l};
 ghost use Rattle.jx_lex.specs.inside.Bits.{bit};
@@ -13,17 +14,17 @@ pub(crate) const BLOCK: usize = 64;
 /// Words of a block: bit k stands for byte k.
 #[derive(Clone, Copy, Debug)]
 pub(crate) struct Words {
-    /// Whether the byte behind it stands in a string.
+    /// Whether the byte after it stands in a string.
     pub strings: u64,
-    /// Whether the byte behind it is escaped.
+    /// Whether the byte after it is escaped.
     pub escapes: u64,
     /// Whether it is a bracket outside of strings.
     pub brackets: u64,
     /// Whether it is a comma or a colon outside of strings.
     pub borders: u64,
-    /// Whether it is a blank outside of strings.
+    /// Whether it is white space outside of strings.
     pub gaps: u64,
-    /// How many bytes of the block are looked at: all but the last one where that one escapes the byte behind it.
+    /// How many bytes of the block are looked at: all but the last one where that one escapes the byte after it.
     pub len: usize,
 }
 
@@ -48,7 +49,7 @@ fn backslashes(block: u8x64) -> u64
 fn brackets(block: u8x64) -> u64
     ensures { result ≡ mask_l (map is_bracket block) }
 {
-    // In ASCII this bit alone tells brackets from braces.
+    // In ASCII this bit alone distinguishes brackets from braces.
     let folded = block | u8x64::splat(0x20);
     (folded.simd_eq(u8x64::splat(b'{')) | folded.simd_eq(u8x64::splat(b'}'))).to_bitmask()
 }
@@ -69,7 +70,7 @@ fn lows(block: u8x64) -> u64
     block.simd_lt(u8x64::splat(0x21)).to_bitmask()
 }
 
-/// Which bytes are blanks.
+/// Which bytes are white space.
 #[inline(always)]
 fn blanks(block: u8x64) -> u64
     ensures { result ≡ mask_l (map is_blank block) }
@@ -80,7 +81,7 @@ fn blanks(block: u8x64) -> u64
         | block.simd_eq(u8x64::splat(b'\r'))).to_bitmask()
 }
 
-/// Which bytes are blanks outside of strings. Mostly no byte there is low enough for one.
+/// Which bytes are white space outside of strings. Mostly no byte there is low enough for one.
 #[inline(always)]
 fn gaps(block: u8x64, strings: u64) -> u64
     ensures { (k : ℕ) → k < 64 → bit result k ≡ (is_blank (get_or block k 0) && not (bit strings k)) }
@@ -91,7 +92,7 @@ fn gaps(block: u8x64, strings: u64) -> u64
     blanks(block) & !strings
 }
 
-/// Whether a line feed and a space behind it stand among the 65 bytes from an offset on.
+/// Whether a line feed and a space after it stand among the 65 bytes from an offset on.
 #[inline(always)]
 pub(crate) fn is_indented(bytes: &[u8], at: usize) -> bool
     requires { at + 64 < length bytes.now }
@@ -101,8 +102,8 @@ pub(crate) fn is_indented(bytes: &[u8], at: usize) -> bool
     (feeds & spaces).to_bitmask() != 0
 }
 
-/// Which bytes are escaped, by the backslashes: every second one of a run, and the byte behind a run of odd length. Taken from the
-/// odd places, a run borrows up to its end. Callers look at each bit once more.
+/// Which bytes are escaped, by the backslashes: every second one of a run, and the byte after a run of odd length.
+/// Taken from the odd places, a run borrows up to its end. Callers look at each bit once more.
 #[inline(always)]
 fn escaped_by(slashes: u64) -> u64 {
     let odd = 0xaaaa_aaaa_aaaa_aaaa;
@@ -136,7 +137,8 @@ fn all(set: bool) -> u64 {
     if set { u64::MAX } else { 0 }
 }
 
-/// How many bytes of a block to look at, so that the byte behind them is not escaped; none where there are no such bytes.
+/// How many bytes of a block to look at, so that the byte after them is not escaped; none where there are no such
+/// bytes.
 #[inline(always)]
 fn len_by(escapes: u64) -> Option<usize>
     ensures bounds { IfSome result (λ len. (63 ≤ len) × (len ≤ 64)) }
@@ -151,8 +153,8 @@ fn len_by(escapes: u64) -> Option<usize>
     Some(BLOCK - 1)
 }
 
-/// The words of a block whose first byte stands inside a string, or outside of strings, and is not escaped; none where they cannot
-/// be told.
+/// The words of a block whose first byte stands inside a string, or outside of strings, and is not escaped; none where
+/// they cannot be known.
 #[inline(always)]
 pub(crate) fn words_of(block: u8x64, inside: bool) -> Option<Words>
     ensures { IfSome result (IsTold block inside) }

@@ -1,11 +1,11 @@
-// What the line of an element has.
+// The content of an element's line.
 
-/// What a line has.
+/// The content of a line.
 #[derive(Clone, Copy, Debug, PartialEq, Eq)]
 pub enum LineContent {
     /// The value of an element or of a member.
     Alone,
-    /// The name of a member as it is spelt, and its value: `{"name":NAME,"value":VALUE}`. The elements of an array have no names,
-    /// and no lines then.
+    /// The name of a member as it is written, and its value: `{"name":NAME,"value":VALUE}`. The elements of an array
+    /// have no names, and no lines then.
     Named,
 }

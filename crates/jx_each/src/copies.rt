@@ -1,4 +1,4 @@
-// Bytes of an element are copied behind what is kept of it.
+// Bytes of an element are copied after what is kept of it.
 ghost use Rattle.std.specs.Prelude.{◌≡◌, ◌+◌, ◌≤◌, ◌++◌, [], OnOk, if◌then◌else◌, length, slice_range};
 
 use crate::blocks::BLOCK;
@@ -16,7 +16,7 @@ fn push_short(part: &mut Vec<u8>, bytes: &[u8], from: usize, to: usize) -> Resul
     Ok(())
 }
 
-/// Appends a stretch of an element, or none of it where elements are not kept.
+/// Appends a part of an element, or none of it where elements are not kept.
 #[inline(always)]
 pub(crate) fn push_stretch(
     part: &mut Vec<u8>,

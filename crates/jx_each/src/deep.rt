@@ -1,4 +1,5 @@
-// Bytes in two containers or more. Each block of 64 is looked at once, and what stands between its blanks is copied.
+// Bytes in two containers or more. Each block of 64 is looked at once, and what stands between its white space is
+// copied.
 ghost use Rattle.std.specs.Prelude.{◌≡◌, ◌+◌, ◌-◌, ◌<◌, ◌≤◌, ◌^◌, IfOk, length, slice_range};
 ghost use Rattle.std.specs.Simd.Lanes.{chunk};
 ghost use Rattle.jx_each.specs.inside.Blocks.{IsTold, placed};
@@ -22,7 +23,8 @@ pub struct Walk {
     pub height: usize,
 }
 
-/// Walks over a block, or up to the byte behind which one container is open, and copies what stands before the last blanks.
+/// Walks over a block, or up to the byte after which one container is open, and copies what is before the last white
+/// space.
 fn walk_block(
     words: Words,
     inside: bool,
@@ -75,8 +77,8 @@ fn walk_block(
     })
 }
 
-/// Copies what stays of the blocks from a byte on that stands there, and answers where the byte behind them stands. It goes on
-/// as long as two containers are open, and no block ends with a backslash that escapes a byte.
+/// Copies what stays of the blocks from a byte on that stands there, and answers where the byte after them stands. It
+/// goes on as long as two containers are open, and no block ends with a backslash that escapes a byte.
 pub(crate) fn push_deep(
     part: &mut Vec<u8>,
     place: Place,

@@ -26,7 +26,7 @@ use jx_run::{OutcomeRun, Reader, Refusal, Settings, Verdict, reader_is_grammar};
 use std::alloc::{AllocError, Global};
 use std::marker::Model;
 
-/// How many bytes stand before the first fault, by the verdict on so many.
+/// How many bytes are before the first fault, by the verdict on so many.
 fn sound(verdict: Verdict, count: usize) -> usize
     ensures { result ≡ sound verdict count }
 {
@@ -41,8 +41,8 @@ fn sound(verdict: Verdict, count: usize) -> usize
     }
 }
 
-/// Of a slice behind a count of bytes, those before the first fault, where so many were before it without the slice, and so
-/// many are with it.
+/// Of a slice after a count of bytes, those before the first fault, where so many were before it without the slice, and
+/// so many are with it.
 fn sound_part(slice: &[u8], before: usize, count: usize, after: usize) -> &[u8]
     ensures { result.now ≡ sound_part slice.now before count after }
 {
@@ -96,8 +96,8 @@ impl Model for Each {
 }
 
 impl Each {
-    /// One that has taken no byte, by a pointer as it is spelt. Its settings' names are of no account. `Err` where memory is
-    /// refused.
+    /// One that has taken no byte, by a pointer as it is written. Its settings' names are ignored. `Err` when out of
+    /// memory.
     pub fn new(alloc: Global, settings: &Settings, pointer: &str) -> Result<Each, AllocError>
         requires { IsPointer pointer.now }
         ensures settings { IfOk result (λ each. each.reader.settings ≡ settings.now) }
@@ -131,8 +131,8 @@ impl Each {
         })
     }
 
-    /// Takes the slice behind all bytes that it has taken. Behind a fault no byte is looked at. Only want of memory is refused,
-    /// and from then on every slice is.
+    /// Takes the slice after all bytes that it has taken. After a fault no byte is looked at. Fails only when out of
+    /// memory, and from then on every slice is.
     pub fn feed(&mut self, slice: &[u8]) -> Result<(), AllocError>
         requires { self.old.reader.start + self.old.reader.count + length slice.now < 2 ^ 64 }
         ensures settings { self.new.reader.settings ≡ self.old.reader.settings }
@@ -160,9 +160,9 @@ impl Each {
         Ok(())
     }
 
-    /// Takes the slice behind all bytes that it has taken by a run over it, and by sections of it, the last one first: their lines
-    /// are taken in where the bytes before lead to where they begin. No byte order mark may stand in the slice, as in
-    /// `Reader::follow`. Only want of memory is refused, and from then on every slice is.
+    /// Takes the slice after all bytes that it has taken by a run over it, and by parts of it, the last one first:
+    /// their lines are taken in where the bytes before lead to their beginning. No byte order mark may stand in the
+    /// slice, as in `Reader::follow`. Fails only when out of memory, and from then on every slice is.
     pub fn follow(
         &mut self,
         slice: &[u8],
@@ -206,14 +206,14 @@ impl Each {
         Ok(())
     }
 
-    /// What is looked for, and what is written of it.
+    /// The container that is looked for, and what is written of it.
     pub fn target(&self) -> &Target
         ensures { aim_of result.now ≡ aimed self.now.content self.now.path }
     {
         &self.target
     }
 
-    /// How far the container is found; none where memory was refused.
+    /// How far the container is found; none when out of memory.
     pub fn stage(&self) -> Option<Stage>
         ensures { result ≡ option_map (λ stand. stand.stage) self.now.stand }
     {

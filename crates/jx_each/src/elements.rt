@@ -1,5 +1,5 @@
-// Elements of an array, written while their bytes are walked over: of each block of 64 what stands between blanks is copied at
-// once, and commas behind elements become line feeds.
+// Elements of an array, written while their bytes are walked over: of each block of 64 what stands between white space
+// is copied at once, and commas after elements become line feeds.
 ghost use Rattle.std.specs.Prelude.{◌≡◌, ◌+◌, ◌-◌, ◌<◌, ◌≤◌, ◌^◌, ℕ, false, true, [], ◌++◌, ◌⊎◌, IfOk, IfSome, IsTrue, OnOk, bit_or, drop, length, nat_lt, slice_range, take};
 ghost use Rattle.std.specs.Simd.Lanes.{chunk};
 ghost use Rattle.jx_compact.specs.declared.place.Place.TheVariants.{Between};
@@ -65,8 +65,8 @@ fn stops_at(words: Words, height: usize) -> u64
     }
 }
 
-/// Ends the elements of a block from one byte up to another, which were copied behind what was made: a comma behind an element
-/// becomes a line feed. It stops before a byte that ends the array.
+/// Ends the elements of a block from one byte up to another, which were copied after what was made: a comma after an
+/// element becomes a line feed. It stops before a byte that ends the array.
 #[inline(always)]
 fn end_elements(
     view: View,
@@ -109,7 +109,8 @@ fn end_elements(
     Reach { at, nest }
 }
 
-/// Copies the bytes of a block from one up to another, among which no blank stands outside of strings, and ends the elements there.
+/// Copies the bytes of a block from one up to another, among which no white space stands outside of strings, and ends
+/// the elements there.
 #[inline(always)]
 fn walk_stretch(
     view: View,
@@ -138,7 +139,7 @@ fn walk_stretch(
     Ok(reach)
 }
 
-/// The first blank outside of strings from a byte of a block on, or the end of those that are looked at.
+/// The first white space outside of strings from a byte of a block on, or the end of those that are looked at.
 #[inline(always)]
 fn next_gap(words: Words, at: usize) -> usize
     requires within { (at < words.len) × (words.len ≤ 64) }
@@ -149,7 +150,7 @@ fn next_gap(words: Words, at: usize) -> usize
     next_set(words.gaps, at).min(words.len)
 }
 
-/// The end of the blanks of a block that begin at a byte, where it is one, or else that byte.
+/// The end of the white space of a block that begin at a byte, where it is one, or else that byte.
 #[inline(always)]
 fn past_gap(words: Words, at: usize) -> usize
     requires within { (at ≤ words.len) × (words.len ≤ 64) }
@@ -165,7 +166,7 @@ fn past_gap(words: Words, at: usize) -> usize
     }
 }
 
-/// Copies the 64 bytes from an offset on over what was made behind so many bytes.
+/// Copies the 64 bytes from an offset on over what was made after so many bytes.
 #[inline(always)]
 fn put_block(made: &mut [u8], at: usize, bytes: &[u8], from: usize)
     requires room { at + 64 ≤ length made.old }
@@ -176,8 +177,9 @@ fn put_block(made: &mut [u8], at: usize, bytes: &[u8], from: usize)
     u8x64::from_slice(&bytes[from..]).copy_to_slice(&mut made[at..]);
 }
 
-/// Walks over the bytes of a block that are looked at, or up to one that ends the array, from one blank to the next. What stays of
-/// them is put behind so many bytes that were made, and counted with them. A copy of 64 bytes takes less time than one of any length.
+/// Walks over the bytes of a block that are looked at, or up to one that ends the array, from one byte of white space
+/// to the next. The bytes that stay are put after so many that were made, and counted with them. A copy of 64 bytes
+/// takes less time than one of any length.
 #[inline(always)]
 fn squeeze(view: View, made: &mut [u8], start: usize, bytes: &[u8], nest: Nest) -> Squeezed
     requires room { view.base + 128 ≤ length bytes.now }
@@ -218,7 +220,8 @@ fn squeeze(view: View, made: &mut [u8], start: usize, bytes: &[u8], nest: Nest) 
     }
 }
 
-/// Walks over the bytes of a block that are looked at, or up to one that ends the array, where there are blanks among them.
+/// Walks over the bytes of a block that are looked at, or up to one that ends the array, where there is white space
+/// among them.
 #[inline(always)]
 fn walk_gaps(view: View, lines: &mut Vec<u8>, bytes: &[u8], nest: Nest) -> Result<Reach, AllocError>
     requires room { view.base + 128 ≤ length bytes.now }
@@ -239,7 +242,8 @@ fn walk_gaps(view: View, lines: &mut Vec<u8>, bytes: &[u8], nest: Nest) -> Resul
     Ok(squeezed.reach)
 }
 
-/// Whether no byte of a block opens or closes a container or is a blank, outside of strings, and none ends an element.
+/// Whether no byte of a block opens or closes a container or is white space, outside of strings, and none ends an
+/// element.
 #[inline(always)]
 fn is_quiet(words: Words, height: usize) -> bool
     ensures high { IsTrue result → 1 < height }
@@ -248,7 +252,8 @@ fn is_quiet(words: Words, height: usize) -> bool
     height > 1 && words.brackets | words.gaps == 0
 }
 
-/// Appends a block whose commas alone do anything, the last one of which stands before a place, and makes line feeds of them.
+/// Appends a block whose commas alone do anything, the last one of which is before a place, and makes line feeds of
+/// them.
 #[inline(always)]
 fn push_flat(
     view: View,
@@ -280,8 +285,8 @@ fn push_flat(
     })
 }
 
-/// The place behind the last comma of a block whose commas alone do anything, and each of them ends an element. None where it is
-/// another block.
+/// The place after the last comma of a block whose commas alone do anything, and each of them ends an element. None
+/// where it is another block.
 #[inline(always)]
 fn flat_block(view: View, lines: &[u8], bytes: &[u8], nest: Nest) -> Option<usize>
     requires room { view.base + 128 ≤ length bytes.now }
@@ -332,7 +337,7 @@ fn walk_block(
     walk_gaps(view, lines, bytes, nest)
 }
 
-/// Where the byte stands behind those of a block that were walked over.
+/// Where the byte follows those of a block that were walked over.
 #[inline(always)]
 fn place_behind(words: Words, inside: bool, at: usize) -> Place
     requires bounds { (63 ≤ words.len) × (words.len ≤ 64) × (at ≤ words.len) }
@@ -347,8 +352,8 @@ fn place_behind(words: Words, inside: bool, at: usize) -> Place
     }
 }
 
-/// Walks over the blocks of an array, the first byte of which stands there, and up to a byte that ends it. What is kept of the
-/// element that is open stands behind the lines.
+/// Walks over the blocks of an array, the first byte of which stands there, and up to a byte that ends it. What is kept
+/// of the element that is open follows the lines.
 fn walk_blocks(lines: &mut Vec<u8>, bytes: &[u8], from: Front) -> Result<Front, AllocError>
     requires within { from.end ≤ length bytes.now }
     requires begin { from.nest.begin ≤ length lines.old.items }
@@ -386,8 +391,8 @@ fn walk_blocks(lines: &mut Vec<u8>, bytes: &[u8], from: Front) -> Result<Front, 
     Ok(front)
 }
 
-/// Moves what is kept of an element behind the lines, and answers where it begins there. Where there is no line, and more is kept
-/// than a length, it is moved at once; else the lines keep their room.
+/// Moves what is kept of an element after the lines, and answers where it begins there. Where there is no line, and
+/// more is kept than a length, it is moved at once; else the lines keep their room.
 fn join_part(lines: &mut Vec<u8>, part: &mut Vec<u8>, len: usize) -> Result<usize, AllocError>
     ensures begin { IfOk result (λ begin. begin ≡ length lines.old.items) }
     ensures lines { IfOk result (λ _. lines.new.items ≡ lines.old.items ++ part.old.items) }
@@ -403,7 +408,7 @@ fn join_part(lines: &mut Vec<u8>, part: &mut Vec<u8>, len: usize) -> Result<usiz
     Ok(begin)
 }
 
-/// Moves what stands behind the lines back.
+/// Moves what follows the lines back.
 fn split_part(lines: &mut Vec<u8>, part: &mut Vec<u8>, begin: usize) -> Result<(), AllocError>
     requires begin { begin ≤ length lines.old.items }
     requires part { part.old.items ≡ [] }
@@ -419,8 +424,8 @@ fn split_part(lines: &mut Vec<u8>, part: &mut Vec<u8>, begin: usize) -> Result<(
     Ok(())
 }
 
-/// Makes what the blocks of an array come to from a byte on that stands there, up to one that ends the array, and answers where the
-/// byte behind them stands.
+/// Takes in the blocks of an array from a byte on that stands there, up to one that ends the array, and
+/// answers where the byte after them stands.
 pub(crate) fn make_elements(
     lines: &mut Vec<u8>,
     part: &mut Vec<u8>,

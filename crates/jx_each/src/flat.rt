@@ -1,5 +1,5 @@
-// Blocks of an array in which numbers and literals stand close: no string, no bracket and no blank. Its commas become line feeds
-// at once.
+// Blocks of an array in which numbers and literals stand close: no string, no bracket and no white space. Its commas
+// become line feeds at once.
 ghost use Rattle.std.specs.Prelude.{◌≡◌, ◌-◌, ◌<◌, ◌≤◌, ◌&&◌, ℕ, IfSome, IsTrue, bit_or, false, map, not, true};
 ghost use Rattle.std.specs.Simd.Lanes.{mask_l};
 ghost use Rattle.jx_lex.specs.inside.Bits.{bit};
@@ -31,7 +31,7 @@ fn is_plain(words: Words, inside: bool, commas: u64) -> bool
         && words.strings | words.escapes | words.brackets | words.gaps == 0
 }
 
-/// Whether no comma stands behind another one, and none is the first byte where no element stands before the block.
+/// Whether no comma follows another one, and none is the first byte where no element is before the block.
 #[inline(always)]
 fn are_apart(commas: u64, begun: bool) -> bool
     ensures { IsTrue result → (k : ℕ) → k < 64 → (bit commas k && in_at (not begun) commas k) ≡ false }
@@ -52,8 +52,8 @@ fn is_end(commas: u64, end: usize) -> bool
     end == 0 || is_set(commas, end - 1)
 }
 
-/// How many bytes stand up to the last comma, in a block whose commas alone do anything, and each of them ends an element. None
-/// where it is another block. `begun` tells whether an element stands before it.
+/// How many bytes are before and at the last comma, in a block whose commas alone do anything, and each of them ends an
+/// element. None where it is another block. `begun` says whether an element is before it.
 #[inline(always)]
 pub(crate) fn commas_end(words: Words, inside: bool, block: u8x64, begun: bool) -> Option<usize>
     requires { IsTold block inside words }

@@ -1,4 +1,4 @@
-// Sections are taken in where the bytes before them come to what they begin with.
+// Parts are taken in where the bytes before them lead to what they begin with.
 ghost use Rattle.std.specs.Prelude.{◌≡◌, ◌+◌, ◌-◌, ◌<◌, ◌≤◌, ◌^◌, All, IfOk, IfSome, IsTrue, drop, length};
 ghost use Rattle.jx_each.specs.Machine.{run};
 ghost use Rattle.jx_each.specs.inside.Paths.{aim_of, count_in};
@@ -27,8 +27,8 @@ fn is_same(one: LineStand, other: LineStand) -> bool
         && one.takes == other.takes
 }
 
-/// Makes the lines of the bytes before a section, and takes it in where it was made from where these lead to. A section that
-/// begins before them, or ends behind all, is left out.
+/// Makes the lines of the bytes before a part, and takes it in where it was made from where these lead to. A part that
+/// begins before them, or ends after all, is left out.
 fn take_section(
     target: &Target,
     from: Reached,
@@ -63,7 +63,7 @@ fn take_section(
     })
 }
 
-/// Takes in a section, where there is one.
+/// Takes in a part, where there is one.
 fn take_if_any(
     target: &Target,
     from: Reached,
@@ -88,8 +88,8 @@ fn take_if_any(
     }
 }
 
-/// Makes what bytes come to, the first of which stands there, by sections of a slice that begins with them, the last one first. It
-/// answers what `make_all` does, whatever the sections are.
+/// Takes in bytes, the first of which stands there, by parts of a slice that begins with them, the last one
+/// first. It answers what `make_all` does, whatever the parts are.
 pub(crate) fn make_by_sections(
     target: &Target,
     stand: LineStand,

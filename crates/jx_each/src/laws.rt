@@ -1,5 +1,5 @@
-// What holds of the lines that are due, each on a function that does nothing: for every list of bytes and all settings, where values
-// alone are written, and by what a line has.
+// Laws of the lines that are due, each on a function that does nothing: for every list of bytes and all settings, where
+// values alone are written, and by what a line has.
 ghost use Rattle.std.specs.Prelude.{◌≡◌, ◌++◌, [], ℕ, List};
 ghost use Rattle.jx_run.specs.declared.texts.settings.Settings.{Settings};
 ghost use Rattle.jx_run.specs.Settings.{IsDocumentBy};
@@ -10,7 +10,7 @@ ghost use Rattle.jx_each.specs.Each.{EachValue, HasTaken, HasTakenBy};
 
 use jx_run::reader_is_grammar;
 
-/// What was given away and what waits is what is due of the bytes that were taken.
+/// The lines that were given away and those that wait are the lines that are due of the bytes that were taken.
 pub fn what_is_taken_is_due()
     ensures due { (pointer bytes given : List ℕ) (each : EachValue) → HasTaken pointer bytes given each → IsDue each.reader.settings pointer bytes (given ++ each.ready) }
     ensures due_by { (content : LineContent) (pointer bytes given : List ℕ) (each : EachValue) → HasTakenBy content pointer bytes given each → IsDueBy content each.reader.settings pointer bytes (given ++ each.ready) }
@@ -22,7 +22,8 @@ pub fn due_is_one()
     ensures one_by { (content : LineContent) (settings : Settings) (pointer input x y : List ℕ) → IsDueBy content settings pointer input x → IsDueBy content settings pointer input y → x ≡ y }
 {}
 
-/// What is due of an input begins what is due of every longer one. So it may be written before more is read.
+/// The lines that are due of an input begin those that are due of every longer one. So they may be written before more
+/// is read.
 pub fn due_grows()
     ensures grows { (settings : Settings) (pointer input more x y : List ℕ) → IsDue settings pointer input x → IsDue settings pointer (input ++ more) y → (rest : List ℕ) × (y ≡ x ++ rest) }
     ensures grows_by { (content : LineContent) (settings : Settings) (pointer input more x y : List ℕ) → IsDueBy content settings pointer input x → IsDueBy content settings pointer (input ++ more) y → (rest : List ℕ) × (y ≡ x ++ rest) }

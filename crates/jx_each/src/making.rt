@@ -162,7 +162,7 @@ fn keep_part(
     }
 }
 
-/// Makes what a byte comes to, and answers where the byte behind it stands.
+/// Takes in a byte, and answers where the byte after it stands.
 fn make(
     target: &Target,
     stand: LineStand,
@@ -200,7 +200,7 @@ fn is_array(stage: Stage) -> bool
     }
 }
 
-/// Whether a byte stands behind an element of the container, an array, where another one follows.
+/// Whether a byte follows an element of the container, an array, where another one follows.
 #[inline(always)]
 fn is_border(stand: LineStand, byte: u8) -> bool
     ensures { IsTrue result → (stand ≡ spot_in_array stand.takes) × (byte ≡ 0x2c) }
@@ -214,8 +214,8 @@ fn is_border(stand: LineStand, byte: u8) -> bool
     }
 }
 
-/// Makes what a comma comes to behind an element of an array, and answers where the byte behind it stands. That is what `make`
-/// does there, in less time.
+/// Takes in a comma after an element of an array, and answers where the byte after it stands. That is what
+/// `make` does there, in less time.
 #[inline(always)]
 fn end_element(lines: &mut Vec<u8>, part: &mut Vec<u8>) -> Result<LineStand, AllocError>
     ensures made { IfOk result (λ next. (aim : Aim) (takes : Bool) → record { stand = next; lines = lines.new.items; part = part.new.items } ≡ step aim (record { stand = spot_in_array takes; lines = lines.old.items; part = part.old.items }) 0x2c) }
@@ -239,8 +239,8 @@ fn is_in_elements(stand: LineStand) -> bool
     is_array(stand.stage) && stand.takes && stand.height >= 1
 }
 
-/// Whether the next bytes are many and no line among them is indented. Where blanks cut most of what is copied, elements are made
-/// one by one in less time.
+/// Whether the next bytes are many and no line among them is indented. Where white space cut most of what is copied,
+/// elements are made one by one in less time.
 #[inline(always)]
 fn is_compact(bytes: &[u8], at: usize) -> bool
     requires { at ≤ length bytes.now }
@@ -252,8 +252,9 @@ fn is_compact(bytes: &[u8], at: usize) -> bool
         && !is_indented(bytes, at + 3 * BLOCK)
 }
 
-/// Makes what blocks come to from a byte on that stands there, as far as that takes less time, and answers where the byte behind
-/// them stands. What is kept of an element is moved only where it is shorter than the bytes, or where it is moved at once.
+/// Takes in blocks from a byte on that stands there, as far as that takes less time, and answers where the
+/// byte after them stands. What is kept of an element is moved only where it is shorter than the bytes, or where it is
+/// moved at once.
 #[inline(always)]
 fn make_blocks(
     stand: LineStand,
@@ -290,7 +291,7 @@ fn moved(stand: LineStand, place: Place, height: usize) -> LineStand
     }
 }
 
-/// Makes what bytes come to, the first of which stands there, and answers where the byte behind them stands.
+/// Takes in bytes, the first of which stands there, and answers where the byte after them stands.
 pub(crate) fn make_all(
     target: &Target,
     stand: LineStand,

@@ -1,4 +1,4 @@
-// What is open in an array whose elements are written.
+// The open containers in an array whose elements are written.
 ghost use Rattle.std.specs.Prelude.{◌≡◌, ◌+◌, ◌<◌, ◌≤◌, ◌^◌, [], ◌∷◌, IfSome, IsNone, IsTrue, drop, false, get_or, length, take, true};
 ghost use Rattle.jx_compact.specs.Compact.{is_kept, next};
 ghost use Rattle.jx_compact.specs.declared.place.Place.TheVariants.{Between};
@@ -26,8 +26,9 @@ fn is_within(height: usize, byte: u8) -> bool
     height > 1 || byte == b'[' || byte == b'{'
 }
 
-/// Makes what a byte comes to that is a bracket, a comma or a colon outside of strings, and stands at an offset among what was made:
-/// a comma behind an element becomes a line feed. None where the array ends or where no element stands before the byte.
+/// Takes in a byte that is a bracket, a comma or a colon outside of strings, and stands at an offset among
+/// what was made: a comma after an element becomes a line feed. None where the array ends or where no element is before
+/// the byte.
 #[inline(always)]
 pub(crate) fn pass_stop(made: &mut [u8], at: usize, byte: u8, nest: Nest) -> Option<Nest>
     requires within { at < length made.old }

@@ -36,7 +36,7 @@ fn is_index(units: &[u32]) -> bool
     units[0] != 0x30 && all_digits(&units[1..])
 }
 
-/// Whether the number that digits spell is this one.
+/// Whether the number that digits encode is this one.
 fn has_value(units: &[u32], number: usize) -> bool
     ensures { result ≡ (value_after 0 units.now == number) }
 {
@@ -51,7 +51,7 @@ fn has_value(units: &[u32], number: usize) -> bool
     value == number
 }
 
-/// Whether a token with these units names the element behind so many others.
+/// Whether a token with these units names the element after so many others.
 pub(crate) fn is_number(units: &[u32], count: usize) -> bool
     ensures { result ≡ is_number units.now count }
 {

@@ -19,16 +19,16 @@ trait ByteSet {
         ensures { result ≡ mask_l (map (λ byte. not (goes_on byte)) block) };
 }
 
-/// What a string holds but for quotation marks and backslashes.
+/// The bytes of a string but for quotation marks and backslashes.
 struct Chars;
 
-/// What stands between tokens in two containers or more, but for blanks, quotation marks and brackets.
+/// The bytes between tokens in two containers or more, but for white space, quotation marks and brackets.
 struct Deep;
 
 /// The same without commas and colons.
 struct Flat;
 
-/// The blanks that may stand between tokens (RFC 8259, section 2).
+/// The white space that may stand between tokens (RFC 8259, section 2).
 struct Blanks;
 
 impl ByteSet for Chars {
@@ -55,7 +55,7 @@ impl ByteSet for Deep {
 
     #[inline(always)]
     fn others(block: u8x16) -> u64 {
-        // In ASCII this bit alone tells brackets from braces.
+        // In ASCII this bit alone distinguishes brackets from braces.
         let folded = block | u8x16::splat(0x20);
         (block.simd_lt(u8x16::splat(0x23))
             | folded.simd_eq(u8x16::splat(b'{'))
@@ -184,7 +184,7 @@ pub(crate) fn flat_end(bytes: &[u8], from: usize) -> usize
     run_end::<Flat>(bytes, from)
 }
 
-/// The first offset from `from` on of a byte that is no blank, or the end.
+/// The first offset from `from` on of a byte that is no white space, or the end.
 #[inline(always)]
 pub(crate) fn blanks_end(bytes: &[u8], from: usize) -> usize
     requires { from ≤ length bytes.now }

@@ -9,22 +9,22 @@ use crate::target::Target;
 use jx_lex::Span;
 use std::alloc::{AllocError, Global};
 
-/// What the bytes of a span of a slice come to, where the first one stands at a stand, and a front was kept before it. Whoever
-/// makes one may be wrong about both: `Each::follow` compares them.
+/// The lines of the bytes of a span of a slice, where the first byte has a known stand, and a front was kept before it.
+/// Whoever makes one may be wrong about both: `Each::follow` compares them.
 #[derive(Drop)]
 pub struct Section {
     pub span: Span,
     pub first: LineStand,
     pub front: Vec<u8>,
-    /// Where the byte behind them stands.
+    /// Where the byte after them stands.
     pub last: LineStand,
-    /// The lines that end in it, and what is kept behind the last one.
+    /// The lines that end in it, and what is kept after the last one.
     pub lines: Vec<u8>,
     pub part: Vec<u8>,
 }
 
 impl Section {
-    /// That of a span of a slice, from a stand in the container on. `Err` where memory is refused.
+    /// The lines of a span of a slice, from a stand in the container on. `Err` when out of memory.
     pub fn of(
         alloc: Global,
         target: &Target,

@@ -1,4 +1,4 @@
-// What a byte between tokens says of the open containers.
+// Bytes between tokens, by what they say of the open containers.
 ghost use Rattle.std.specs.Prelude.{◌≡◌};
 ghost use Rattle.jx_each.specs.Turns.{sign_of, turn_by};
 
@@ -13,19 +13,19 @@ pub enum Sign {
     Other,
 }
 
-/// What a byte does at its height, the count of containers that are open before it.
+/// The effect of a byte at its height, the count of containers that are open before it.
 #[derive(Clone, Copy, Debug, PartialEq, Eq)]
 pub enum Turn {
     /// It opens the first one.
     EnterArray,
     EnterObject,
-    /// It stands behind an element, and another follows.
+    /// It follows an element, and another follows.
     Next,
     /// It stands between a name and its value.
     Value,
     /// It closes the first one.
     Leave,
-    /// It stands behind a value where none was opened.
+    /// It follows a value where none was opened.
     Past,
     /// It stands in an element, or in no container.
     Stay,
@@ -52,7 +52,7 @@ pub(crate) fn sign_of(byte: u8) -> Sign
     }
 }
 
-/// What such a byte does at a height.
+/// The effect of such a byte at a height.
 pub(crate) fn turn_by(height: usize, sign: Sign) -> Turn
     ensures { result ≡ turn_by height sign }
 {

@@ -10,17 +10,17 @@ use jx_compact::Place;
 pub enum Stage {
     /// The value comes that so many tokens lead to.
     Ahead { level: usize },
-    /// In an array to which so many tokens lead, behind so many elements.
+    /// In an array to which so many tokens lead, after so many elements.
     Elements { level: usize, count: usize },
     /// In an object to which so many tokens lead.
     Members { level: usize },
     /// In the container itself.
     Array,
     Object,
-    /// In the container itself, whose members are written with their names: in front of a colon, and behind it.
+    /// In the container itself, whose members are written with their names: in front of a colon, and after it.
     Name,
     Pair,
-    /// Behind it, or where it cannot come any more.
+    /// After it, or where it cannot come any more.
     Over,
 }
 
@@ -36,7 +36,7 @@ pub struct LineStand {
     pub takes: bool,
 }
 
-/// What a byte does that stands there.
+/// The effect of a byte at this stand.
 pub(crate) fn turn_at(stand: LineStand, byte: u8) -> Turn
     ensures { result ≡ turn_at stand.place stand.height byte }
 {
@@ -47,7 +47,7 @@ pub(crate) fn turn_at(stand: LineStand, byte: u8) -> Turn
     }
 }
 
-/// How many containers are open behind such a byte.
+/// How many containers are open after such a byte.
 fn turned(height: usize, sign: Sign) -> usize
     requires { height + 1 < 2 ^ 64 }
     ensures value { result ≡ turned height sign }
@@ -63,7 +63,7 @@ fn turned(height: usize, sign: Sign) -> usize
     }
 }
 
-/// How many containers are open behind a byte that stands there.
+/// How many containers are open after a byte that stands there.
 #[inline(always)]
 pub(crate) fn height_next(place: Place, height: usize, byte: u8) -> usize
     requires { height + 1 < 2 ^ 64 }

@@ -1,4 +1,4 @@
-// Stretches of bytes that are kept one behind another, so that they are copied at once.
+// Bytes that are kept one after another, so that they are copied at once.
 ghost use Rattle.std.specs.Prelude.{◌≡◌, ◌+◌, ◌-◌, ◌<◌, ◌≤◌, ◌^◌, IsTrue, length, slice_index, slice_range, true};
 ghost use Rattle.jx_compact.specs.Compact.{is_kept};
 ghost use Rattle.jx_each.specs.Turns.{turn_at};
@@ -10,7 +10,7 @@ use crate::sign::Turn;
 use crate::stand::height_next;
 use jx_compact::{Place, next};
 
-/// Where a stretch ends, and where the byte there stands.
+/// Where a part ends, and where the byte there stands.
 #[derive(Clone, Copy, Debug)]
 pub(crate) struct Stretch {
     pub end: usize,
@@ -38,7 +38,7 @@ fn steady_end(place: Place, height: usize, bytes: &[u8], from: usize) -> usize
     }
 }
 
-/// Whether a stretch goes on with a byte that stands there.
+/// Whether a part goes on with a byte that stands there.
 #[inline(always)]
 fn goes_on(place: Place, height: usize, byte: u8) -> bool
     ensures { IsTrue result → (turn_at place height byte ≡ Turn.Stay) × (is_kept place byte ≡ true) }
@@ -63,7 +63,7 @@ fn goes_on(place: Place, height: usize, byte: u8) -> bool
     }
 }
 
-/// A byte with which a stretch goes on, and the run behind it.
+/// A byte with which a part goes on, and the run after it.
 #[inline(always)]
 fn near_stretch(place: Place, height: usize, bytes: &[u8], from: usize) -> Stretch
     requires within { from < length bytes.now }
@@ -89,8 +89,8 @@ pub(crate) fn is_deep(height: usize, bytes: &[u8], from: usize) -> bool
     height > 1 && bytes.len() - from >= BLOCK
 }
 
-/// A stretch from a byte on that stands there, as long as one is found, and up to where bytes are walked over by blocks; it may
-/// have no byte.
+/// A part from a byte on that stands there, as long as one is found, and up to where bytes are walked over by blocks;
+/// it may have no byte.
 pub(crate) fn stretch_from(place: Place, height: usize, bytes: &[u8], from: usize) -> Stretch
     requires within { from ≤ length bytes.now }
     requires fits { height + (length bytes.now - from) < 2 ^ 64 }
@@ -110,7 +110,8 @@ pub(crate) fn stretch_from(place: Place, height: usize, bytes: &[u8], from: usiz
     Stretch { end, place, height }
 }
 
-/// The offset behind the blanks from a byte on that stands there, where it stands between tokens. Mostly there is none.
+/// The offset after the white space from a byte on that stands there, where it stands between tokens. Mostly there is
+/// none.
 #[inline(always)]
 pub(crate) fn blanks_from(place: Place, bytes: &[u8], from: usize) -> usize
     requires { from ≤ length bytes.now }

@@ -1,4 +1,4 @@
-// What is looked for in a text, and what is written of it.
+// The container that is looked for in a text, and what is written of it.
 use crate::content::LineContent;
 use crate::token::Token;
 

@@ -12,7 +12,7 @@ pub struct Token {
     pub units: Vec<u32>,
 }
 
-/// What some bytes leave of others.
+/// The bytes after the first `count`.
 fn behind(bytes: &[u8], count: usize) -> &[u8]
     ensures { result.now ≡ drop count bytes.now }
 {
@@ -23,7 +23,7 @@ fn behind(bytes: &[u8], count: usize) -> &[u8]
     }
 }
 
-/// How many bytes stand before the next slash, or before the end.
+/// How many bytes are before the next slash, or before the end.
 fn token_len(bytes: &[u8]) -> usize
     ensures within { result ≤ length bytes.now }
     ensures slashless { HasNoSlash (take result bytes.now) }

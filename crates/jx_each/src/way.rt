@@ -44,7 +44,7 @@ fn in_object(content: LineContent) -> Stage
     }
 }
 
-/// The stage in front of an element that stands behind so many.
+/// The stage in front of an element that follows so many.
 fn at_element(target: &Target, level: usize, count: usize) -> Stage
     ensures { result ≡ at_element target.now.content (slice_get (path_of target.now.path.items) level) level count }
 {
@@ -68,7 +68,7 @@ fn at_member(target: &Target, level: usize) -> Stage
     }
 }
 
-/// The stage behind a name and its colon.
+/// The stage after a name and its colon.
 fn at_value(path: &[Token], level: usize, name: &[u8]) -> Stage
     ensures { result ≡ at_value (slice_get (path_of path.now) level) level name.now }
 {
@@ -82,7 +82,7 @@ fn at_value(path: &[Token], level: usize, name: &[u8]) -> Stage
     }
 }
 
-/// The stage behind a byte in front of a value.
+/// The stage after a byte in front of a value.
 fn ahead_next(target: &Target, level: usize, turn: Turn) -> Stage
     ensures { result ≡ ahead_next (aim_of target.now) level turn }
 {
@@ -97,7 +97,7 @@ fn ahead_next(target: &Target, level: usize, turn: Turn) -> Stage
     }
 }
 
-/// The stage behind a byte in an array on the way.
+/// The stage after a byte in an array on the way.
 fn elements_next(target: &Target, level: usize, count: usize, turn: Turn) -> Stage
     requires { count + 1 < 2 ^ 64 }
     ensures { result ≡ elements_next (aim_of target.now) level count turn }
@@ -113,7 +113,7 @@ fn elements_next(target: &Target, level: usize, count: usize, turn: Turn) -> Sta
     }
 }
 
-/// The stage behind a byte in an object on the way, where a name may have been read.
+/// The stage after a byte in an object on the way, where a name may have been read.
 fn members_next(target: &Target, level: usize, name: &[u8], turn: Turn) -> Stage
     ensures { result ≡ members_next (aim_of target.now) level name.now turn }
 {
@@ -128,7 +128,7 @@ fn members_next(target: &Target, level: usize, name: &[u8], turn: Turn) -> Stage
     }
 }
 
-/// The stage behind a byte in the container itself.
+/// The stage after a byte in the container itself.
 fn open_next(stage: Stage, turn: Turn) -> Stage
     ensures { result ≡ open_next stage turn }
 {
@@ -143,7 +143,7 @@ fn open_next(stage: Stage, turn: Turn) -> Stage
     }
 }
 
-/// The stage behind a byte in the container, in front of the colon of a member whose name is written.
+/// The stage after a byte in the container, in front of the colon of a member whose name is written.
 fn name_next(turn: Turn) -> Stage
     ensures { result ≡ name_next turn }
 {
@@ -158,7 +158,7 @@ fn name_next(turn: Turn) -> Stage
     }
 }
 
-/// The stage behind a byte in the container, behind that colon.
+/// The stage after a byte in the container, after that colon.
 fn pair_next(turn: Turn) -> Stage
     ensures { result ≡ pair_next turn }
 {
@@ -173,7 +173,7 @@ fn pair_next(turn: Turn) -> Stage
     }
 }
 
-/// The stage behind a byte.
+/// The stage after a byte.
 fn stage_next(target: &Target, stage: Stage, name: &[u8], turn: Turn) -> Stage
     requires { count_in stage + 1 < 2 ^ 64 }
     ensures { result ≡ stage_next (aim_of target.now) stage name.now turn }
@@ -206,7 +206,7 @@ fn begins_part(stage: Stage) -> bool
     }
 }
 
-/// Whether a value that is written begins behind a colon.
+/// Whether a value that is written begins after a colon.
 fn begins_value(stage: Stage) -> bool
     ensures { result ≡ begins_value stage }
 {
@@ -222,7 +222,7 @@ fn begins_value(stage: Stage) -> bool
     }
 }
 
-/// Whether what stands behind a byte is kept, by the stage there.
+/// Whether what follows a byte is kept, by the stage there.
 fn takes_next(stage: Stage, takes: bool, turn: Turn) -> bool
     ensures { result ≡ takes_next stage takes turn }
 {
@@ -254,7 +254,7 @@ fn height_in(stage: Stage, height: usize) -> usize
     }
 }
 
-/// The same behind a byte that does this.
+/// The same after a byte that does this.
 fn height_by(turn: Turn, stage: Stage, height: usize) -> usize
     ensures value { result ≡ height_by turn stage height }
     ensures most { result ≤ height }
@@ -270,7 +270,7 @@ fn height_by(turn: Turn, stage: Stage, height: usize) -> usize
     }
 }
 
-/// Where the next byte stands, behind a byte that does this; `part` is what was kept before it.
+/// Where the next byte stands, after a byte that does this; `part` is what was kept before it.
 pub(crate) fn stand_by(
     target: &Target,
     turn: Turn,

@@ -1,12 +1,12 @@
-// Where a section may begin: behind a comma between two elements of the container. What is answered here is a guess, which is
-// compared with what the bytes before it come to.
+// Where a part may begin: after a comma between two elements of the container. What is answered here is a guess, which
+// is compared with what the bytes before it lead to.
 ghost use Rattle.std.specs.Prelude.{◌≡◌, ◌≤◌, length, IfSome};
 ghost use Rattle.jx_each.specs.inside.Paths.{count_in};
 
 use jx_compact::{Place, next};
 use jx_each::{LineStand, Stage};
 
-/// Where the byte behind such a comma stands, by a stage in the container; none outside of it.
+/// Where the byte after such a comma stands, by a stage in the container; none outside of it.
 pub(crate) fn stand_behind_comma(stage: Stage) -> Option<LineStand>
     ensures height { IfSome result (λ stand. stand.height ≡ 1) }
     ensures count { IfSome result (λ stand. count_in stand.stage ≡ 0) }
@@ -28,7 +28,7 @@ pub(crate) fn stand_behind_comma(stage: Stage) -> Option<LineStand>
     })
 }
 
-/// What is kept behind such a comma, by the stage there.
+/// The state after such a comma, by the stage there.
 pub(crate) fn part_behind_comma(stage: Stage) -> &'static [u8] {
     match stage {
         Stage::Name => b"{\"name\":",
@@ -47,7 +47,7 @@ fn is_blank(byte: u8) -> bool {
     byte == b' ' || byte == b'\t' || byte == b'\n' || byte == b'\r'
 }
 
-/// Whether the last byte that is no blank may stand before a string.
+/// Whether the last byte that is no white space may be before a string.
 fn may_open(before: &[u8]) -> bool {
     match before.iter().rev().find(|byte| !is_blank(**byte)) {
         Some(byte) => *byte == b'{' || *byte == b'[' || *byte == b',' || *byte == b':',
@@ -55,7 +55,7 @@ fn may_open(before: &[u8]) -> bool {
     }
 }
 
-/// Whether the first byte that is no blank may stand behind a string.
+/// Whether the first byte that is no white space may follow a string.
 fn may_close(behind: &[u8]) -> bool {
     match behind.iter().find(|byte| !is_blank(**byte)) {
         Some(byte) => *byte == b'}' || *byte == b']' || *byte == b',' || *byte == b':',
@@ -63,8 +63,8 @@ fn may_close(behind: &[u8]) -> bool {
     }
 }
 
-/// An offset that seems to stand between tokens: at a line feed, at a quotation mark that opens a string or behind one that
-/// closes it, or at the start where there is none of these.
+/// An offset that seems to stand between tokens: at a line feed, at a quotation mark that opens a string or after one
+/// that closes it, or at the start where there is none of these.
 fn between(bytes: &[u8]) -> usize
     ensures { result ≤ length bytes.now }
 {
@@ -86,7 +86,7 @@ fn between(bytes: &[u8]) -> usize
     0
 }
 
-/// How many containers are open behind a byte between tokens, where they are counted from half of what there can be.
+/// How many containers are open after a byte between tokens, where they are counted from half of what there can be.
 fn level_behind(level: usize, byte: u8) -> usize {
     if byte == b'[' || byte == b'{' {
         level.saturating_add(1)
@@ -97,7 +97,7 @@ fn level_behind(level: usize, byte: u8) -> usize {
     }
 }
 
-/// The offset behind the first comma among those where the fewest containers are open, from an offset between tokens on.
+/// The offset after the first comma among those where the fewest containers are open, from an offset between tokens on.
 fn behind_low_comma(bytes: &[u8], from: usize) -> Option<usize>
     requires { from ≤ length bytes.now }
     ensures { IfSome result (λ end. end ≤ length bytes.now) }
@@ -120,7 +120,7 @@ fn behind_low_comma(bytes: &[u8], from: usize) -> Option<usize>
     found
 }
 
-/// An offset that seems to stand behind a comma between two elements of the container in which the bytes stand.
+/// An offset that seems to follow a comma between two elements of the container in which the bytes stand.
 pub(crate) fn behind_comma(bytes: &[u8]) -> Option<usize>
     ensures { IfSome result (λ end. end ≤ length bytes.now) }
 {

@@ -1,4 +1,4 @@
-// Sections of a slice, which workers make side by side.
+// Parts of a slice, which workers make side by side.
 ghost use Rattle.std.specs.Prelude.{◌-◌, ◌≤◌, All, IfOk, IfSome, length};
 ghost use Rattle.jx_each.specs.Sections.{IsSection};
 ghost use Rattle.jx_each.specs.inside.Paths.{aim_of};
@@ -25,8 +25,8 @@ fn look_at(slice: &[u8], span: Span) -> &[u8]
     &slice[span.start..span.start + look]
 }
 
-/// Makes the lines of a span of a slice in the container, from where an element seems to begin. None where no such place is seen,
-/// or memory is refused.
+/// Makes the lines of a span of a slice in the container, from where an element seems to begin. None where no such
+/// place is seen, or when out of memory.
 fn section_in(
     alloc: Global,
     target: &Target,
@@ -48,7 +48,7 @@ fn section_in(
     Section::of(alloc, target, first, front, slice, own).ok()
 }
 
-/// A span for each worker, the last one first; fewer where they have less than a piece.
+/// A span for each worker, the last one first; fewer where they have less than a chunk.
 fn spans_of(
     alloc: Global,
     len: usize,
@@ -68,7 +68,7 @@ fn spans_of(
     Ok(spans)
 }
 
-/// Makes a section of each worker's span, in a thread of its own where one can be made: the last one first.
+/// Makes a part of each worker's span, in a thread of its own where one can be made: the last one first.
 pub(crate) fn sections_of<R: Threads + Sync, G: Sync>(
     crew: &Crew<'_, R, G>,
     target: &Target,

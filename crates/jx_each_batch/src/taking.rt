@@ -18,11 +18,11 @@ use std::alloc::AllocError;
 use std::sync::Wait;
 use std::thread::Threads;
 
-/// How many bytes the calling thread takes before the others are shared, so that the container may be reached. Where no line ends
-/// there, elements are taken to be so long that no section begins with one.
+/// How many bytes the calling thread takes before the others are shared, so that the container may be reached. Where no
+/// line ends there, elements are taken to be so long that no part begins with one.
 const FRONT: usize = 64 * 1024;
 
-/// Takes a slice by a run over it and by sections of it.
+/// Takes a slice by a run over it and by parts of it.
 fn follow_run(
     each: &mut Each,
     slice: &[u8],
@@ -45,7 +45,7 @@ fn follow_run(
     each.follow(slice, run.run(), sections)
 }
 
-/// Makes sections of a slice, where it stands in the container.
+/// Makes parts of a slice, where it stands in the container.
 fn sections_for<R: Threads + Sync, G: Sync>(
     crew: &Crew<'_, R, G>,
     each: &Each,
@@ -63,7 +63,7 @@ fn sections_for<R: Threads + Sync, G: Sync>(
     }
 }
 
-/// Takes a slice, which the crew reads; each of its workers makes a section, where that is asked for.
+/// Takes a slice, which the crew reads; each of its workers makes a part, where that is asked for.
 fn follow_shared<R: Threads + Wait + Sync, G: Gate + Sync>(
     crew: &Crew<'_, R, G>,
     each: &mut Each,
@@ -100,13 +100,14 @@ fn follow_shared<R: Threads + Wait + Sync, G: Gate + Sync>(
     follow_run(each, slice, &run, sections)
 }
 
-/// Takes the slice behind all bytes that a maker of lines has taken, as `Each::feed` does, by the crew. One worker, or a slice of
-/// one piece, or one that is short and whose reading nobody is asked about, is taken by the calling thread alone.
+/// Takes the slice after all bytes that a maker of lines has taken, as `Each::feed` does, by the crew. One worker, or a
+/// slice of one chunk, or one that is short and whose reading nobody is asked about, is taken by the calling thread
+/// alone.
 ///
-/// Of several workers each draws pieces of so many bytes, reads them and puts the runs into a book, and makes the lines of one
-/// section of the slice. Where a section is made from another place than the bytes before it lead to, the calling thread makes
-/// its lines, and it makes all of them where none ends among the first bytes. The gate is asked as pieces are read. Only want of
-/// memory is refused, and from then on every slice is.
+/// Of several workers each takes chunks of so many bytes, reads them and puts the runs into an accumulator, and makes
+/// the lines of one part of the slice. Where a part is made from another place than the bytes before it lead to, the
+/// calling thread makes its lines, and it makes all of them where none ends among the first bytes. The gate is asked as
+/// chunks are read. Fails only when out of memory, and from then on every slice is.
 pub fn feed_shared<R: Threads + Wait + Sync, G: Gate + Sync>(
     crew: &Crew<'_, R, G>,
     each: &mut Each,
@@ -118,7 +119,7 @@ pub fn feed_shared<R: Threads + Wait + Sync, G: Gate + Sync>(
     ensures settings { each.new.reader.settings ≡ each.old.reader.settings }
     ensures path { each.new.path ≡ each.old.path }
     ensures content { each.new.content ≡ each.old.content }
-    // For every crew and every piece, it has taken the slice, and the lines that are due then wait.
+    // For every crew and every chunk, it has taken the slice, and the lines that are due then wait.
     ensures taken { OnOk result ((content : LineContent) (pointer bytes given : List ℕ) → HasTakenBy content pointer bytes given each.old → HasTakenBy content pointer (bytes ++ slice.now) given each.new) }
     ensures start { each.new.reader.start ≡ each.old.reader.start }
     ensures count { OnOk result (each.new.reader.count ≡ each.old.reader.count + length slice.now) }

@@ -1,4 +1,4 @@
--- What a report does to the bytes of the ends that it is lent, where these are known.
+-- The reader and writer that a report is lent, where their bytes are known.
 use Rattle.std.specs.Prelude.{ℕ, ◌<◌, ◌==◌, List, length, take, Bool, true, Result, Ok, Err, Option, nat_lt, ◌&&◌}
 use Rattle.std.specs.Io.KnownBytes.{Consumes, IsAtEnd, Appends}
 

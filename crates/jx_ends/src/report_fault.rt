@@ -12,10 +12,10 @@ pub enum ReportFault {
     /// The writer failed, or took no byte. A beginning of the output was written.
     #[error("jx: write failed")]
     Write,
-    /// A growth of memory was refused. Nothing was written.
+    /// An allocation failed. Nothing was written.
     #[error("jx: out of memory")]
     Memory,
-    /// The input has more than 4,294,967,295 pieces. Nothing was written, and memory was taken for the reading alone.
+    /// The input has more than 4,294,967,295 chunks. Nothing was written, and memory was taken for the reading alone.
     #[error("jx: too many pieces")]
     Pieces,
 }

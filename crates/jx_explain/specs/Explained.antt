@@ -1,4 +1,4 @@
--- What is told of a text that is read to its end: its words are not described, but that they are by the verdict.
+-- The report on a text that is read to its end: its words are not described, but that they are by the verdict.
 use Rattle.std.specs.Prelude.{◌≡◌, ℕ, ◌≤◌, List, length, Option}
 use Rattle.jx_run.specs.declared.texts.verdict.Verdict.{Verdict}
 use Rattle.jx_run.specs.declared.texts.verdict.Verdict.TheVariants.{Accepted, Refused}
@@ -14,7 +14,8 @@ abbrev pub exit_by : Verdict → Exit
 exit_by Accepted = Good
 exit_by (Refused refusal) = Bad
 
--- the reader gave all that it had, in no more pieces than there may be, and the exit is by the verdict of the settings on it
+-- the reader gave all that it had, in no more chunks than there may be, and the status is by the verdict of the
+-- settings on it
 pub record Explains (command : Command) (unread left : Option (List ℕ)) (exit : Exit) : Type 0 where
   pub text : List ℕ
   pub read : ReadsToEnd unread left text

@@ -9,7 +9,7 @@ const SIDE: usize = 37;
 /// How many bytes are looked at on each side: a character that is shown takes at most four.
 const SIDE_BYTES: usize = 4 * SIDE + 4;
 
-/// What stands at an end of a line that is cut there.
+/// The sign at an end of a line that is cut there.
 const CUT: &str = "..";
 
 /// The part of a line on one side of a place as it is shown, and whether the line has more there.
@@ -32,7 +32,7 @@ fn from_character(bytes: &[u8]) -> &[u8] {
     }
 }
 
-/// What stands in the line of a place before it, as far as it is shown.
+/// The bytes of the line of a place before it, as far as it is shown.
 fn before(text: &[u8], at: usize) -> Side<'_> {
     let all = text.get(..at).unwrap_or(text);
     let near = all
@@ -50,7 +50,7 @@ fn before(text: &[u8], at: usize) -> Side<'_> {
     }
 }
 
-/// What stands in the line of a place from it on, as far as it is shown. A carriage return before the line feed is left
+/// The bytes of the line of a place from it on, as far as it is shown. A carriage return before the line feed is left
 /// out.
 fn behind(text: &[u8], at: usize) -> Side<'_> {
     let all = text.get(at..).unwrap_or(&[]);
@@ -67,7 +67,7 @@ fn behind(text: &[u8], at: usize) -> Side<'_> {
     }
 }
 
-/// What stands at an end of a line.
+/// The sign at an end of a line.
 fn dots(is_cut: bool) -> &'static str {
     if is_cut { CUT } else { "" }
 }

@@ -1,4 +1,4 @@
-// What people are told of a text.
+// The report on a text for people.
 use crate::excerpt::push_excerpt;
 use crate::notes::push_notes;
 use crate::object::{push_accepted_object, push_front, push_place, push_words, word_of};
@@ -9,7 +9,7 @@ use jx_sentence::{offset_of, place_of, push_sentence, push_shown};
 use std::alloc::{AllocError, Global};
 use std::fmt::Write;
 
-/// How the parts of what is told are marked.
+/// How the parts of the report are marked.
 #[derive(Clone, Copy, Debug, PartialEq, Eq)]
 pub enum Marking {
     /// By nothing.
@@ -19,7 +19,7 @@ pub enum Marking {
 }
 
 impl Marking {
-    /// What begins the place.
+    /// The bytes that begin the place.
     fn place(self) -> &'static str {
         match self {
             Marking::Plain => "",
@@ -27,7 +27,7 @@ impl Marking {
         }
     }
 
-    /// What ends it.
+    /// The bytes that end it.
     fn end(self) -> &'static str {
         match self {
             Marking::Plain => "",
@@ -44,23 +44,24 @@ impl Marking {
     }
 }
 
-/// How what is told of a text is spelt.
+/// How the report on a text is written.
 #[derive(Clone, Copy, Debug, PartialEq, Eq)]
 pub enum Form {
-    /// For people: of a text that is refused the place, a sentence, the line and a caret, and notes. Of one that is accepted that, if
-    /// it is told.
+    /// For people: of a text that is refused the place, a sentence, the line and a caret, and notes. Of one that is
+    /// accepted that, if it is reported.
     People {
         marking: Marking,
         tells_accepted: bool,
     },
-    /// As compilers tell of faults: of a text that is refused the place and a sentence, in one line, and of any other nothing.
+    /// As compilers report faults: of a text that is refused the place and a sentence, in one line, and of any other
+    /// nothing.
     Mark,
     /// As a JSON object in one line.
     Object,
 }
 
-/// A line that tells of a text of this name that is refused by settings, as compilers tell of faults: the place, what is wrong there
-/// in a sentence, and the offset.
+/// A line on a text of this name that is refused by settings, as compilers report faults: the place, what is wrong
+/// there in a sentence, and the offset.
 fn marked(
     alloc: Global,
     name: &[u8],
@@ -84,9 +85,9 @@ fn marked(
     Ok(out)
 }
 
-/// What people are told of a text of this name that is refused by settings: the line with the place and the sentence, and the
-/// line of the place with a caret. A line that is long is cut around the place, and what is no UTF-8 or not printed is shown
-/// by its bytes. Notes stand behind that.
+/// The report for people on a text of this name that is refused by settings: the line with the place and the sentence,
+/// and the line of the place with a caret. A line that is long is cut around the place, and what is no UTF-8 or not
+/// printed is shown by its bytes. Notes follow that.
 fn refused(
     alloc: Global,
     name: &[u8],
@@ -102,7 +103,7 @@ fn refused(
     Ok(out)
 }
 
-/// What is told of a text of this name that is accepted.
+/// The report on a text of this name that is accepted.
 fn accepted(alloc: Global, name: &[u8], form: Form) -> Result<String, AllocError> {
     let mut out = String::new(alloc);
     match form {
@@ -139,8 +140,8 @@ fn refused_object(
     Ok(out)
 }
 
-/// What is told of a text of this name in a form, by the verdict that settings give on it: that it is accepted, or where it is
-/// refused and why.
+/// The report on a text of this name in a form, by the verdict that settings give on it: that it is accepted, or where
+/// it is refused and why.
 pub fn explained(
     alloc: Global,
     name: &[u8],

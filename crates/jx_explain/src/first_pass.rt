@@ -1,4 +1,4 @@
-// A pass over an input for its verdict alone, which holds no more than batches of it.
+// A skip an input for its verdict alone, which holds no more than batches of it.
 ghost use Rattle.std.specs.Prelude.{◌≡◌, ◌≢◌, ◌≤◌, ◌↔◌, [], false, true, IfOk, IfErr, IsErrOf};
 ghost use Rattle.std.specs.Io.KnownBytes.{Appends};
 ghost use Rattle.jx_report.specs.Reports.{HasTooManyPieces};
@@ -29,7 +29,7 @@ pub fn exit_of_input<R: Threads + Wait + Sync, S: Source + Send, W: Sink, G: Gat
     ensures write { IsErrOf result ReportFault.Write ↔ (W.has_failed writer.new ≡ true) }
     // After any other fault the writer is as it was.
     ensures unwritten { IfErr result (λ fault. fault ≢ ReportFault.Write → writer.new ≡ writer.old) }
-    // Pieces are too many only where all was read, and it has more of them than there may be.
+    // Chunks are too many only where all was read, and it has more of them than there may be.
     ensures pieces { IsErrOf result ReportFault.Pieces → HasTooManyPieces command.now (S.remaining reader.old)
         (S.remaining reader.new) }
 {

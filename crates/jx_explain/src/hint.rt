@@ -1,10 +1,10 @@
-// What a fault probably is.
+// Guesses at the cause of a fault.
 use jx_lex::LexState;
 use jx_reduce::{Expect, Holder};
 use jx_sentence::Standing;
 use memchr::memrchr;
 
-/// What a text begins with that is none, and what is told of it.
+/// Beginnings of bytes that are not valid JSON, and the report on each.
 const FRONTS: [(&[u8], &str); 5] = [
     (
         b"\xEF\xBB\xBF",
@@ -27,7 +27,7 @@ const CURLY: [&[u8]; 4] = [
 /// The literals of JSON.
 const LITERALS: [&[u8]; 3] = [b"true", b"false", b"null"];
 
-/// A word that stands for a value elsewhere, and what is told of it.
+/// A word that stands for a value elsewhere, and the report on it.
 const WORDS: [(&[u8], &str); 14] = [
     (b"NaN", "NaN, which JSON has not"),
     (b"nan", "NaN, which JSON has not"),
@@ -51,7 +51,7 @@ fn begins_with_word(bytes: &[u8], word: &[u8]) -> bool {
     bytes.starts_with(word) && !next.is_ascii_alphanumeric()
 }
 
-/// What is told of the word that the bytes begin with, if it is one of those.
+/// The report on the word that the bytes begin with, if it is one of those.
 fn hint_of_word(bytes: &[u8]) -> Option<&'static str> {
     let mut found = None;
     for (word, hint) in &WORDS {
@@ -62,7 +62,7 @@ fn hint_of_word(bytes: &[u8]) -> Option<&'static str> {
     found
 }
 
-/// What a text is that stopped at its first two bytes.
+/// A guess at what a text is that stopped at its first two bytes.
 fn hint_of_front(text: &[u8]) -> Option<&'static str> {
     match (text.first(), text.get(1)) {
         (Some(0), Some(1..)) | (Some(1..), Some(0)) => Some("UTF-16, where JSON has UTF-8"),
@@ -93,7 +93,7 @@ fn wants_name(expect: Expect) -> bool {
     matches!(expect, Expect::Name | Expect::ObjectFirst)
 }
 
-/// Whether a comma stands before this, where a value or a name has to follow.
+/// Whether a comma is before this, where a value or a name has to follow.
 fn is_behind_comma(standing: &Standing) -> bool {
     match standing.expect {
         Expect::Name => true,
@@ -102,7 +102,7 @@ fn is_behind_comma(standing: &Standing) -> bool {
     }
 }
 
-/// Whether nothing but blanks stands before an offset in its line, and a line before that.
+/// Whether nothing but white space is before an offset in its line, and a line before that.
 fn begins_line(text: &[u8], at: usize) -> bool {
     let before = text.get(..at).unwrap_or(text);
     match memrchr(b'\n', before) {
@@ -114,7 +114,7 @@ fn begins_line(text: &[u8], at: usize) -> bool {
     }
 }
 
-/// What the first byte of a value or a name is behind a value, where it may not stand.
+/// A guess at the first byte of a value or a name after a value, where it may not stand.
 fn hint_behind_value(text: &[u8], at: usize, standing: &Standing) -> Option<&'static str> {
     if standing.expect != Expect::After {
         return None;
@@ -128,7 +128,7 @@ fn hint_behind_value(text: &[u8], at: usize, standing: &Standing) -> Option<&'st
     }
 }
 
-/// Whether bytes stand right behind a string in a container, and begin no value or name.
+/// Whether bytes stand right after a string in a container, and begin no value or name.
 fn is_behind_string(text: &[u8], rest: &[u8], standing: &Standing) -> bool {
     let is_behind = matches!(standing.expect, Expect::After | Expect::Colon)
         && standing.top != Holder::Bottom
@@ -136,7 +136,7 @@ fn is_behind_string(text: &[u8], rest: &[u8], standing: &Standing) -> bool {
     is_behind && !begins_with_literal(rest)
 }
 
-/// What a byte between tokens probably is, where it is no letter behind a string.
+/// A guess at a byte between tokens, where it is no letter after a string.
 fn hint_between(text: &[u8], at: usize, standing: &Standing, byte: u8) -> Option<&'static str> {
     let expect = standing.expect;
     match byte {
@@ -155,7 +155,7 @@ fn hint_between(text: &[u8], at: usize, standing: &Standing, byte: u8) -> Option
     }
 }
 
-/// What stands between tokens at an offset probably is.
+/// A guess at the bytes between tokens at an offset.
 fn hint_in_gap(text: &[u8], at: usize, standing: &Standing) -> Option<&'static str> {
     let rest = text.get(at..).unwrap_or(&[]);
     let byte = *rest.first()?;
@@ -172,7 +172,7 @@ fn hint_in_gap(text: &[u8], at: usize, standing: &Standing) -> Option<&'static s
     }
 }
 
-/// What stands at an offset probably is, by where the reading stands there.
+/// A guess at the bytes at an offset, by where the reading stands there.
 pub fn hint_at(text: &[u8], at: usize, standing: &Standing) -> Option<&'static str> {
     let rest = text.get(at..).unwrap_or(&[]);
     let front = if at < 2 { hint_of_front(text) } else { None };

@@ -1,4 +1,4 @@
-// What is told of a fault behind its line.
+// The report on a fault after its line.
 use crate::hint::hint_at;
 use crate::trail::{Step, pointer_along};
 use crate::way::way_to;
@@ -6,7 +6,7 @@ use jx_run::{Refusal, Settings};
 use jx_sentence::{push_shown, standing_before};
 use std::alloc::{AllocError, Global};
 
-/// How many open brackets are told at most, of those that were opened last.
+/// How many open brackets are reported at most, of those that were opened last.
 const MOST: usize = 32;
 
 /// The bracket that opened a container.
@@ -69,8 +69,8 @@ fn push_hint(
     out.push('\n')
 }
 
-/// Appends the pointer of the place, which brackets are open where a text ends too early, and what a fault probably is, each where there is
-/// something to tell.
+/// Appends the pointer of the place, which brackets are open where a text ends too early, and a guess at the fault,
+/// each where there is one.
 pub fn push_notes(
     alloc: Global,
     out: &mut String,

@@ -1,4 +1,4 @@
-// What is told of a text as a JSON object in one line.
+// The report on a text as a JSON object in one line.
 use bstr::ByteSlice;
 use jx_run::Refusal;
 use jx_sentence::Place;
@@ -27,14 +27,14 @@ fn push_string(out: &mut String, bytes: &[u8]) -> Result<(), AllocError> {
     out.push('"')
 }
 
-/// Appends the beginning of an object, up to what stands behind the name.
+/// Appends the beginning of an object, up to what follows the name.
 fn push_name(out: &mut String, name: &[u8]) -> Result<(), AllocError> {
     out.push_str("{\"name\":")?;
     push_string(out, name)?;
     out.push(',')
 }
 
-/// The beginning of an object of an input of this name, up to what stands behind the name.
+/// The beginning of an object of an input of this name, up to what follows the name.
 pub fn object_front(alloc: Global, name: &[u8]) -> Result<Vec<u8>, AllocError> {
     let mut front = String::new(alloc);
     push_name(&mut front, name)?;

@@ -71,9 +71,9 @@ fn exit_of(verdict: Verdict) -> Exit
     }
 }
 
-/// Reads a text of this name to its end, and writes what is told of it in a form. The verdict is that of the command's settings;
-/// its task is of no account. The crew reads the text as `report` does for a verdict, but holds all of it, since the line of the
-/// fault is shown. Nothing is written before all is read.
+/// Reads a text of this name to its end, and writes the report on it in a form. The verdict is that of the command's
+/// settings; its task is ignored. The crew reads the text as `report` does for a verdict, but holds all of it, since
+/// the line of the fault is shown. Nothing is written before all is read.
 pub fn report_explained<R: Threads + Wait + Sync, S: Source, W: Sink, G: Gate + Sync>(
     crew: &Crew<'_, R, G>,
     reader: &mut S,
@@ -90,7 +90,7 @@ pub fn report_explained<R: Threads + Wait + Sync, S: Source, W: Sink, G: Gate + 
     ensures write { IsErrOf result ReportFault.Write ↔ (W.has_failed writer.new ≡ true) }
     // After any other fault the writer is as it was.
     ensures unwritten { IfErr result (λ fault. fault ≢ ReportFault.Write → writer.new ≡ writer.old) }
-    // Pieces are too many only where all was read, and it has more of them than there may be.
+    // Chunks are too many only where all was read, and it has more of them than there may be.
     ensures pieces { IsErrOf result ReportFault.Pieces → HasTooManyPieces command.now (S.remaining reader.old)
         (S.remaining reader.new) }
 {

@@ -5,7 +5,7 @@ use jx_lex::{LexState, Mark, MarkKind, Span, TokenSink, scan};
 use jx_string::{StringFault, unescaped};
 use std::alloc::{AllocError, Global};
 
-/// A container that is open, and the part of it that a reading has come to.
+/// A container that is open, and the part of it that a reading has led to.
 #[derive(Clone, Copy, Debug, PartialEq, Eq)]
 pub enum Step {
     /// An array, and the number of its element, counted from 0.
@@ -32,7 +32,7 @@ impl Trail {
         }
     }
 
-    /// Goes on behind a comma.
+    /// Goes on after a comma.
     fn pass_comma(&mut self) {
         match self.steps.last() {
             Some(Step::Element(number)) => {
@@ -53,7 +53,7 @@ impl Trail {
 }
 
 impl TokenSink for Trail {
-    // The way is told to people, and no contract speaks of it.
+    // The way is reported to people, and no contract speaks of it.
     ghost has_seen = { λ _ _ _. ⊤ };
 
     ghost awaits = { λ _ _. Unit {0} };
@@ -85,8 +85,8 @@ impl TokenSink for Trail {
     }
 }
 
-/// The containers that are open behind the bytes of a text from one offset up to another, outermost first, where these begin a text.
-/// Only want of memory is refused.
+/// The containers that are open after the bytes of a text from one offset up to another, outermost first, where these
+/// begin a text. Fails only when out of memory.
 pub fn steps_behind(
     alloc: Global,
     text: &[u8],

@@ -1,4 +1,4 @@
--- For each node of a tree, in the order of the rows, the number of the row behind all that stands in it.
+-- For each node of a tree, in the order of the rows, the number of the row after all that stands in it.
 use Rattle.std.specs.Prelude.{ℕ, suc, ◌+◌, List, [], ◌∷◌, ◌++◌}
 use Rattle.jx_run.specs.Tree.{Tree, node, Children, no_children, child}
 use Rattle.jx_index.specs.Rows.{size, sizes}

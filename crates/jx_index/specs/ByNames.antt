@@ -1,4 +1,4 @@
--- What a rule on the names of objects makes of texts that are otherwise accepted.
+-- Verdicts by a rule on the names of objects, for texts that are otherwise accepted.
 use Rattle.std.specs.Prelude.{◌≡◌, ℕ, List, Option, None, Some}
 use Rattle.std.specs.List.{AllZip}
 use Rattle.jx_run.specs.declared.sequences.element_verdict.ElementVerdict.{ElementVerdict}
@@ -35,7 +35,7 @@ pub data IsVerdictBy (settings : Settings) (bytes : List ℕ) : Verdict → Type
   -- a text in which one is
   repeated_name : {tree : Tree} {at : ℕ} → IsDocumentBy settings 0 bytes tree → RefusesName settings.names bytes (rows tree) (Some at)
       → IsVerdictBy settings bytes (Refused (RepeatedName at))
-  -- no text, whatever names its objects have
+  -- not a text, whatever names its objects have
   no_text : {refusal : Refusal} → JudgedBy settings 0 bytes (Refused refusal) → IsVerdictBy settings bytes (Refused refusal)
 
 -- ---- a sequence
@@ -52,7 +52,8 @@ abbrev pub judged_unless : Option ℕ → JudgedElement → JudgedElement
 judged_unless None e = e
 judged_unless (Some at) e = record e { verdict = verdict.Refused (RepeatedName at) }
 
--- what an element of the input comes to by settings: the verdict on it within the depth, and what the rule makes of that
+-- what an element of the input leads to by settings: the verdict on it within the depth, and what the rule makes of
+-- that
 pub record IsJudgedBy (settings : Settings) (input : List ℕ) (p : Part) (e : JudgedElement) : Type 0 where
   pub told : JudgedElement
   pub judged : IsJudgedElement settings.depth p told

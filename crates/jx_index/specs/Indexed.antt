@@ -19,7 +19,7 @@ pub record HasTree (index : IndexedValue) : Type 0 where
   pub tree : Tree
   pub is_text : IsText index.text index.span.start index.span.end limit tree
 
--- the rows and the numbers behind them are those of the text's tree
+-- the rows and the numbers after them are those of the text's tree
 pub record HasNodes (text : List ℕ) (span : Span) (table : List Row) (after : List ℕ) : Type 0 where
   pub limit : ℕ
   pub tree : Tree
@@ -27,7 +27,7 @@ pub record HasNodes (text : List ℕ) (span : Span) (table : List Row) (after : 
   pub rows_are : table ≡ rows tree
   pub after_are : after ≡ afters tree
 
--- the rows, the numbers behind them and the ordered children are those of the text's one tree
+-- the rows, the numbers after them and the ordered children are those of the text's one tree
 pub record IsIndexed (text : List ℕ) (span : Span) (table : List Row) (after starts children : List ℕ) : Type 0 where
   pub limit : ℕ
   pub tree : Tree

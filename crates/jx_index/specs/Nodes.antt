@@ -1,4 +1,4 @@
--- What the rows say of a node, by its number.
+-- The rows about a node, by its number.
 use Rattle.std.specs.Prelude.{◌≡◌, ℕ, suc, ◌==◌, List, [], ◌∷◌, Option, None, Some, Bool, false, cond, slice_get}
 use Rattle.jx_lex.specs.declared.kind.Kind.{Kind}
 use Rattle.jx_lex.specs.declared.kind.Kind.TheVariants as kind

@@ -12,7 +12,7 @@ use Rattle.jx_index.specs.Rows.{rows}
 use Rattle.jx_index.specs.declared.text_answer.TextAnswer.{TextAnswer}
 use Rattle.jx_index.specs.declared.text_answer.TextAnswer.TheVariants as answer
 
--- the index is over what stands behind the front, and its rows are those of the tree
+-- the index is over what follows the front, and its rows are those of the tree
 pub record IsIndexBy (settings : Settings) (bytes : List ℕ) (index : IndexedValue) : Type 0 where
   pub text : index.text ≡ bytes
   pub tree : Tree

@@ -42,7 +42,7 @@ abbrev pub char_more : Spelling → ℕ → List ℕ → ℕ
 char_more InText a bs = if a == 0x5c then escape_more bs else tails_of a
 char_more InToken a bs = if a == 0x7e then 1 else tails_of a
 
--- the units that a list of bytes spells, where some bytes at the front are passed over
+-- the units that a list of bytes encodes, where some bytes at the front are skipped
 unfoldable pub chars_units : Spelling → ℕ → List ℕ → List ℕ
 chars_units spelling skip [] = []
 chars_units spelling zero (a ∷ bs) = char_units spelling a bs ++ chars_units spelling (char_more spelling a bs) bs

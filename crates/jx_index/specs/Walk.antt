@@ -1,7 +1,7 @@
--- The numbers that a walk over the children of a node gives: from each child to the row behind all that stands in it.
+-- The numbers that a walk over the children of a node gives: from each child to the row after all that stands in it.
 use Rattle.std.specs.Prelude.{ℕ, zero, suc, ◌-◌, ◌<◌, ◌≤◌, nat_lt, if◌then◌else◌, List, [], ◌∷◌, length, slice_index}
 
--- behind a row stands a later one
+-- after a row stands a later one
 abbrev pub IsForward : List ℕ → Type 0
 IsForward after = (k : ℕ) → k < length after → k < slice_index after k
 

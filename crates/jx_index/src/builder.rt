@@ -9,7 +9,7 @@ use jx_lex::{Kind, Mark, MarkKind, Span};
 use jx_maps::{Ends, Marks};
 use std::alloc::{AllocError, Global};
 
-/// The rows of a text, and for each the number of the row behind all that stands in it.
+/// The rows of a text, and for each the number of the row after all that stands in it.
 #[derive(Debug, Drop)]
 pub struct Nodes {
     pub rows: Vec<Row>,
@@ -75,7 +75,7 @@ fn close_row(rows: &mut Vec<Row>, number: usize, end: usize)
     }
 }
 
-/// Sets the number of the row behind all that stands in a row; without such a row nothing changes.
+/// Sets the number of the row after all that stands in a row; without such a row nothing changes.
 fn set_after(after: &mut Vec<usize>, number: usize, next: usize)
     ensures { after.new.items ≡ slice_set after.old.items number next }
 {
@@ -135,7 +135,7 @@ impl Builder {
         Ok(())
     }
 
-    /// Closes the innermost open container, if there is one: its span ends at `end`, and the next row is behind it.
+    /// Closes the innermost open container, if there is one: its span ends at `end`, and the next row is after it.
     fn end(&mut self, end: usize)
         ensures { built self.new ≡ ended (built self.old) end }
     {
@@ -155,7 +155,7 @@ impl Builder {
         }
     }
 
-    /// One mark more, and the end that belongs to it where it begins a token. Only want of memory is refused.
+    /// Takes one more token start, and its end where it has one. Fails only when out of memory.
     pub(crate) fn mark(&mut self, kind: MarkKind, at: usize, end: usize) -> Result<(), AllocError>
         ensures { IfOk result (λ _. Fits (built self.old) → at < 2 ^ 64 - 1 → built self.new ≡ on_mark kind at end (built self.old)) }
     {
@@ -183,7 +183,7 @@ impl Builder {
         }
     }
 
-    /// What is built, without what is open.
+    /// The nodes built so far, without the open containers.
     pub(crate) fn into_nodes(self) -> Nodes
         ensures rows { result.rows.items ≡ (built self).rows }
         ensures after { result.after.items ≡ (built self).after }
@@ -207,7 +207,7 @@ impl Marking for Builder {
     }
 }
 
-/// Whether a mark of this kind begins a token, to which an end belongs.
+/// Whether a token of this kind has an end of its own, as strings, numbers and literals have.
 #[inline(always)]
 pub fn has_end(kind: MarkKind) -> bool
     ensures { result ≡ is_token kind }
@@ -228,7 +228,7 @@ fn first_end(ends: &[usize], last: usize) -> usize
     }
 }
 
-/// The ends that a mark of this kind leaves: all but the first where it begins a token, else all.
+/// The ends left after a token start of this kind: all but the first where it has an end, else all.
 fn later_ends<'a>(kind: MarkKind, ends: &'a [usize]) -> &'a [usize]
     ensures { result.now ≡ ends_after kind ends.now }
 {
@@ -239,7 +239,7 @@ fn later_ends<'a>(kind: MarkKind, ends: &'a [usize]) -> &'a [usize]
     }
 }
 
-/// The end of a mark's token: the next of the ends, or `last` where none is left. A structural byte takes none.
+/// The end of a token: the next of the ends, or `last` where none is left. A structural byte takes none.
 fn take_end(kind: MarkKind, ends: &mut Ends, last: usize) -> usize
     ensures left { ends.new ≡ ends_after kind ends.old }
     ensures end { is_token kind ≡ true → result ≡ next_end last ends.old }
@@ -253,8 +253,8 @@ fn take_end(kind: MarkKind, ends: &mut Ends, last: usize) -> usize
     }
 }
 
-/// The nodes of a text that ends at `last`, from the marks and the ends of tokens of its reading, which are read where
-/// they lie.
+/// The nodes of a text that ends at `last`, from the token starts and ends of its reading, which are read
+/// where they lie.
 pub fn nodes_of_track(
     alloc: Global,
     mut marks: Marks,
@@ -272,7 +272,7 @@ pub fn nodes_of_track(
     Ok(builder.into_nodes())
 }
 
-/// The nodes of a text that ends at `last`, from the marks and the ends of tokens of its reading.
+/// The nodes of a text that ends at `last`, from the token starts and ends of its reading.
 pub fn nodes_from_marks(
     alloc: Global,
     marks: &[Mark],

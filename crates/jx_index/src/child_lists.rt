@@ -104,7 +104,7 @@ pub struct ChildLists {
 }
 
 impl ChildLists {
-    /// The children of all rows, where `after` has for each row the number of the row behind all that stands in it.
+    /// The children of all rows, where `after` has for each row the number of the row after all that stands in it.
     pub fn of(
         alloc: Global,
         text: &[u8],
@@ -145,7 +145,7 @@ pub(crate) fn child_list<'i>(starts: &[usize], children: &'i [NodeId], node: usi
     &children[starts[node]..starts[node + 1]]
 }
 
-/// What is kept at a place.
+/// The wide object that is kept at a place.
 fn wide_at<'i>(wide: &'i [WideObject], at: usize) -> &'i WideObject
     requires { at < length wide.now }
     ensures { slice_get wide.now at ≡ Some result.now }

@@ -43,7 +43,7 @@ impl<'i> Iterator for Children<'i> {
     }
 }
 
-/// The children of a node, where `after` has for each row the number of the row behind all that stands in it.
+/// The children of a node, where `after` has for each row the number of the row after all that stands in it.
 pub(crate) fn children_in<'i>(after: &'i [usize], node: NodeId) -> Children<'i>
     requires forward { IsForward after.now }
     requires bounded { IsBounded after.now }

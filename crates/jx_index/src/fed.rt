@@ -1,4 +1,5 @@
-// What the pointers of a trie lead to in a text that is fed: names are told by their bytes, and no text is at hand.
+// Look-ups of the pointers of a trie in a text that is fed: names are given by their bytes, and the text itself is not
+// at hand.
 ghost use Rattle.std.specs.Prelude.{◌≡◌, ℕ, All, List, length, slice_range, true, IfOk};
 ghost use Rattle.jx_lex.specs.declared.alphabet.mark.MarkKind.TheVariants.{String};
 ghost use Rattle.jx_run.specs.declared.texts.settings.Settings.{Settings};
@@ -24,7 +25,8 @@ use jx_run::accepted_texts_stand_behind_fronts;
 use std::alloc::{AllocError, Global};
 
 impl<'s> Seeker<'s> {
-    /// Whether a mark of this kind, if it comes next, begins the name of a member of an object to which tokens lead.
+    /// Whether a token start of this kind, if it comes next, begins the name of a member of an object to which tokens
+    /// lead.
     #[inline(always)]
     pub fn is_name_next(&self, kind: MarkKind) -> bool
         ensures { result ≡ is_name_next kind (finding self.now.state) }
@@ -51,8 +53,8 @@ impl<'s> Seeker<'s> {
         }
     }
 
-    /// One mark more of a text, the end that belongs to it where it begins a token, and of a name its bytes, with the
-    /// quotation marks. Only want of memory is refused.
+    /// Takes one more token start of a text, its end where it has one, and of a name its bytes,
+    /// with the quotation marks. Fails only when out of memory.
     #[inline(always)]
     pub fn tell(
         &mut self,
@@ -74,8 +76,8 @@ impl<'s> Seeker<'s> {
     }
 }
 
-/// What each pointer leads to in an accepted text, in order, by what was met at the nodes of the trie of all of them when
-/// the tokens of the text had been told.
+/// The answer to each pointer in an accepted text, in order, by what was met at the nodes of the trie of all of them
+/// when the sink had seen the tokens of the text.
 pub fn answers_of(
     alloc: Global,
     edges: &[Edge],

@@ -20,7 +20,7 @@ use crate::row::NodeId;
 use crate::units::{Spelling, Units, skip};
 use jx_lex::Kind;
 
-/// How many bytes stand before the next slash, or before the end.
+/// How many bytes are before the next slash, or before the end.
 pub(crate) fn token_len(bytes: &[u8]) -> usize
     ensures within { result ≤ length bytes.now }
     ensures slashless { HasNoSlash (take result bytes.now) }
@@ -45,7 +45,7 @@ fn node_at(nodes: &[NodeId], at: usize) -> Option<NodeId>
 }
 
 impl<'a> Indexed<'a> {
-    /// The only member of an object with the name that a token spells; refused where no member has it, or several.
+    /// The only member of an object with the name that a token encodes; refused where no member has it, or several.
     fn member(&self, object: NodeId, name: &[u8], token: usize) -> Result<NodeId, FindFault>
         requires { IsObjectAt self.now.rows object }
         ensures { result ≡ only (filter (is_equal self.now.text self.now.rows (chars_units InToken 0 name.now)) (child_numbers self.now.rows object)) token }

@@ -1,4 +1,4 @@
-// What was met at the nodes of a trie, and which containers are open, as the marks of a text come.
+// The values met at the nodes of a trie, and the open containers, as the token starts of a text come.
 ghost use Rattle.std.specs.Prelude.{◌≡◌, ◌+◌, ◌-◌, ◌<◌, reverse, IfOk};
 ghost use Rattle.jx_index.specs.inside.Finding.{met_more, met_ended, meet, shut, counted, leaf_at, begin_at, end_in, naming, nothing_met, skip_over};
 ghost use Rattle.jx_index.specs.inside.Found.{finding, HasRoom};
@@ -14,7 +14,7 @@ pub struct Found {
     pub span: Span,
 }
 
-/// What was met where some tokens lead.
+/// The values met where some tokens lead.
 #[derive(Clone, Copy, Debug)]
 pub enum Met {
     Never,
@@ -30,8 +30,8 @@ pub struct Cursor {
     pub count: usize,
 }
 
-/// What was met at each node; the open containers to which tokens lead, outermost first; how many are open below them to which
-/// none leads, and of a name whose value is still to come, to which node it leads.
+/// The state of a look-up: what was met at each node; the open containers to which tokens lead, outermost first; how
+/// many are open below them to which none leads; and of a name whose value is still to come, to which node it leads.
 #[derive(Debug, Drop)]
 pub struct State {
     pub met: Vec<Met>,
@@ -40,14 +40,14 @@ pub struct State {
     pub name: Option<Option<usize>>,
 }
 
-/// One more than a number. No text in memory has so many bytes that there is none.
+/// One more than a number. A text in memory has never so many bytes that this overflows.
 pub(crate) fn one_more(number: usize) -> Result<usize, AllocError>
     ensures { IfOk result (λ more. more ≡ number + 1) }
 {
     number.checked_add(1).ok_or(AllocError)
 }
 
-/// What was met before, and a value more.
+/// The values met before, and a value more.
 fn met_more(met: Met, found: Found) -> Met
     ensures { result ≡ met_more found met }
 {
@@ -57,7 +57,7 @@ fn met_more(met: Met, found: Found) -> Met
     }
 }
 
-/// What was met, where the value that was met last ends.
+/// The values met, where the value that was met last ends.
 fn met_ended(met: Met, end: usize) -> Met
     ensures { result ≡ met_ended end met }
 {
@@ -187,7 +187,7 @@ impl State {
         }
     }
 
-    /// A mark where something is skipped.
+    /// A token start where something is skipped.
     #[inline(always)]
     pub(crate) fn pass(&mut self, kind: MarkKind) -> Result<(), AllocError>
         requires { 0 < self.old.skipped }

@@ -1,4 +1,4 @@
-// What is built of the tokens of a text as a scan finds them.
+// Structures that are built of the tokens of a text as a scan finds them.
 ghost use Rattle.std.specs.Prelude.{◌≡◌, ◌<◌, ◌-◌, ◌^◌, [], ℕ, List, false, is_some, IfOk};
 ghost use Rattle.jx_lex.specs.declared.alphabet.mark.Mark.{Mark};
 ghost use Rattle.jx_index.specs.inside.Building.{Building, built_of, nothing_built, on_mark};
@@ -10,16 +10,17 @@ use crate::builder::has_end;
 use jx_lex::{Mark, MarkKind, TokenSink};
 use std::alloc::AllocError;
 
-/// Takes the marks of a text in order, each with the end of its token. `holds` says what building it may stand for.
+/// Takes the token starts of a text in order, each with the end of its token. `holds` says what building it may stand
+/// for.
 pub trait Marking {
     ghost holds: { Self → Building → Type 0 };
 
-    /// One mark more, and the end that belongs to it where it begins a token. Only want of memory is refused.
+    /// Takes one more token start, and its end where it has one. Fails only when out of memory.
     fn take(&mut self, kind: MarkKind, at: usize, end: usize) -> Result<(), AllocError>
         ensures { IfOk result (λ _. (b : Building) → Fits b → at < 2 ^ 64 - 1 → holds self.old b → holds self.new (on_mark kind at end b)) };
 }
 
-/// Is told the tokens of a text from its start.
+/// A sink that takes the tokens of a text from its start.
 #[derive(Drop)]
 pub struct InOrder<B: Drop> {
     builder: B,
@@ -28,7 +29,7 @@ pub struct InOrder<B: Drop> {
 }
 
 impl<B: Marking + Drop> InOrder<B> {
-    /// A sink that has been told no mark and no end yet.
+    /// A sink that has been given no token start and no end yet.
     pub fn new(builder: B) -> InOrder<B>
         requires { B.holds builder nothing_built }
         ensures seen { HasSeen (B.holds result.builder) [] [] result.begun }
@@ -40,7 +41,7 @@ impl<B: Marking + Drop> InOrder<B> {
         }
     }
 
-    /// What is built of the whole text, which ends at `last`.
+    /// The structure built of the whole text, which ends at `last`.
     pub fn finish(self, last: usize) -> Result<B, AllocError>
         ensures { IfOk result (λ taken. (marks : List Mark) (ends : List ℕ) → AllLow marks → HasSeen (B.holds self.builder) marks ends self.begun → B.holds taken (built_of last marks ends)) }
     {

@@ -29,7 +29,7 @@ pub struct NameOrder<'i> {
     pub fronts: Option<&'i [u64]>,
 }
 
-/// A JSON text with its rows: all its values in the order of their starts, so that each stands before its children.
+/// A JSON text with its rows: all its values in the order of their starts, so that each is before its children.
 #[derive(Debug, Drop)]
 pub struct Indexed<'a> {
     text: &'a [u8],
@@ -52,8 +52,8 @@ impl<'a> Model for Indexed<'a> {
 }
 
 impl<'a> Indexed<'a> {
-    /// The index of a text by its reading: one pass over the marks and ends, with a stack of the depth. `Err` where
-    /// memory is refused.
+    /// The index of a text by its reading: one pass through the token starts and ends, with a stack of the depth.
+    /// `Err` when out of memory.
     pub fn build(
         alloc: Global,
         text: &'a [u8],
@@ -77,7 +77,7 @@ impl<'a> Indexed<'a> {
 
     /// Reads the bytes of a span as a whole text (RFC 8259, section 2) in one pass that keeps nothing but the rows.
     /// Returns the index where the text is accepted, else the refusal. It pauses where the pace says, which changes
-    /// nothing of that. `Err` where memory is refused.
+    /// nothing of that. `Err` when out of memory.
     pub fn read<P: Pace>(
         alloc: Global,
         text: &'a [u8],
@@ -104,8 +104,8 @@ impl<'a> Indexed<'a> {
         }
     }
 
-    /// The index of an accepted text by a run over it, whose marks and ends are read where they lie. `Err` where memory is
-    /// refused.
+    /// The index of an accepted text by a run over it, whose token starts and ends are read where they lie. `Err` when
+    /// out of memory.
     pub fn of_run(alloc: Global, text: &'a [u8], run: &TextRun) -> Result<Indexed<'a>, AllocError>
         requires ordered { run.now.map.start ≤ run.now.map.end }
         requires within { run.now.map.end ≤ length text.now }
@@ -152,7 +152,7 @@ impl<'a> Indexed<'a> {
         self.text
     }
 
-    /// Where the text stands in the whole input, with the blanks before and after its value.
+    /// Where the text stands in the whole input, with the white space before and after its value.
     pub fn span(&self) -> Span
         ensures { result ≡ self.now.span }
     {
@@ -169,7 +169,7 @@ impl<'a> Indexed<'a> {
         self.nodes.rows.as_slice()
     }
 
-    /// All rows, in rising order of their starts. What else the index holds is let go.
+    /// All rows, in rising order of their starts. What else the index holds is freed.
     pub fn into_rows(self) -> Vec<Row>
         ensures { result.items ≡ self.entry.rows }
     {

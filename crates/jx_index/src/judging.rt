@@ -63,7 +63,7 @@ fn judged_unless(name: Option<usize>, element: JudgedElement) -> JudgedElement
     }
 }
 
-/// What an element comes to by the rule on names. Only what is otherwise accepted is read again.
+/// The verdict on an element by the rule on names. Only what is otherwise accepted is read again.
 fn element_by_names(
     alloc: Global,
     input: &[u8],
@@ -80,9 +80,9 @@ fn element_by_names(
     Ok(judged_unless(name, element))
 }
 
-/// The verdicts on the elements of a text sequence (RFC 7464) by settings, from those whatever names their objects have.
-/// Where names have to be unique (RFC 8259, section 4), each element that is otherwise accepted is read once more, with the
-/// names of its open objects alone in memory. `Err` where memory is refused.
+/// The verdicts on the elements of a text sequence (RFC 7464) by settings, from those whatever names their objects
+/// have. Where names have to be unique (RFC 8259, section 4), each element that is otherwise accepted is read once
+/// more, with the names of its open objects alone in memory. `Err` when out of memory.
 pub fn judged_by_names(
     alloc: Global,
     input: &[u8],
@@ -107,8 +107,8 @@ fn judge(alloc: Global, input: &[u8], depth: Depth) -> Result<Vec<JudgedElement>
     Ok(judged)
 }
 
-/// Reads a text sequence (RFC 7464, section 2.1) on the calling thread, and judges its elements by settings. `Err` where
-/// memory is refused.
+/// Reads a text sequence (RFC 7464, section 2.1) on the calling thread, and judges its elements by settings. `Err` when
+/// out of memory.
 pub fn judge_elements(
     alloc: Global,
     input: &[u8],

@@ -30,8 +30,8 @@ ghost use Rattle.jx_index.specs.Units.{chars_units, between_marks};
 use jx_lex::tokens_are_read;
 use jx_run::fronts_decide_where_texts_begin;
 
-/// What is read off a string is its value. The texts that are read as pointers are exactly those of a pointer's form,
-/// and their tokens are that form's. The rows of a text stand in rising order of their starts. Those whose parent is a
+/// The value read off a string is its value. The texts that are read as pointers are exactly those of a pointer's form,
+/// and their tokens are that form's. The rows of a text are in rising order of their starts. Those whose parent is a
 /// node are its children, in order.
 pub fn readings_are_forms()
     ensures strings { (w us : List ℕ) → IsString w us → chars_units InText 0 (between_marks w) ≡ us }
@@ -53,14 +53,15 @@ pub fn look_ups_end_at_rows()
     ensures nodes { (tree : Tree) (number : ℕ) → number < length (rows tree) → HasNode tree number }
 {}
 
-/// Where no object of a text repeats a name, as `Indexed::repeated` tells, no look-up answers that a name is repeated.
+/// Where no object of a text repeats a name, as `Indexed::repeated` decides, no look-up answers that a name is
+/// repeated.
 pub fn unique_names_are_met_once()
     ensures { (text : List ℕ) (start end limit : ℕ) (tree : Tree) → IsText text start end limit tree → IsLeast (IsRepeat text (rows tree)) None
         → (tokens : List (List ℕ)) (token : ℕ) → leads text tree tokens ≡ Err (NameRepeated token) → ⊥ }
 {}
 
-/// An index over an accepted text from an offset on has the rows of its tree. Where that offset is just behind the
-/// front of the bytes, the same holds by settings of all bytes.
+/// An index over an accepted text from an offset on has the rows of its tree. Where that offset is just after the front
+/// of the bytes, the same holds by settings of all bytes.
 pub fn indexes_stand_behind_fronts()
     ensures over { (text : List ℕ) (start limit : ℕ) (index : IndexedValue) → Judged start (rest_from start text) limit Accepted → index.text ≡ text
         → index.span ≡ span start (length text) → ((d : ℕ) (tree : Tree) → IsText text start (length text) d tree → index.rows ≡ rows tree)

@@ -18,7 +18,7 @@ use crate::units::Spelling;
 use jx_lex::Span;
 use std::cmp::Ordering;
 
-/// How a member's name compares with what a token spells: 0 where it is less, 1 where equal, 2 where greater.
+/// How a member's name compares with what a token encodes: 0 where it is less, 1 where equal, 2 where greater.
 fn rank(text: &[u8], rows: &[Row], node: NodeId, name: &[u8]) -> u8
     ensures { result ≡ rank_of text.now rows.now (chars_units InToken 0 name.now) node }
 {
@@ -29,15 +29,15 @@ fn rank(text: &[u8], rows: &[Row], node: NodeId, name: &[u8]) -> u8
     }
 }
 
-/// Whether there is a member at this index whose name is what a token spells.
+/// Whether there is a member at this index whose name is what a token encodes.
 fn is_equal_at(text: &[u8], rows: &[Row], names: &[NodeId], at: usize, name: &[u8]) -> bool
     ensures { IsTrue result ↔ IsEqualAt (rank_of text.now rows.now (chars_units InToken 0 name.now)) names.now at }
 {
     at < names.len() && rank(text, rows, names[at], name) == 1
 }
 
-/// The only member with the name that a token spells, among members by rising names. It looks at no more names than a
-/// halving needs: those where it halves, the first that is not below the token, and the one behind that.
+/// The only member with the name that a token encodes, among members by rising names. It looks at no more names than a
+/// halving needs: those where it halves, the first that is not below the token, and the one after that.
 fn find_name(
     text: &[u8],
     rows: &[Row],
@@ -91,7 +91,7 @@ fn find_by_front(
     find_name(text, rows, &names[equal.start..equal.end], name, token)
 }
 
-/// The only member with the name that a token spells, among members by rising names.
+/// The only member with the name that a token encodes, among members by rising names.
 pub fn find_member(
     text: &[u8],
     rows: &[Row],

@@ -36,7 +36,7 @@ fn no_units<'a>() -> Units<'a>
     Units::new(&[], Spelling::InText)
 }
 
-/// The next unit, as far as a byte holds it. Behind one that is greater, and behind the last one, all are 0.
+/// The next unit, as far as a byte holds it. After one that is greater, and after the last one, all are 0.
 fn next_digit(units: &mut Units) -> u64
     ensures digit { result ≡ digit (units_left units.old) }
     ensures behind { units_left units.new ≡ behind_digit (units_left units.old) }

@@ -1,4 +1,4 @@
-// Numbers by which most names that differ are told apart.
+// Numbers by which most names that differ are distinguished.
 ghost use Rattle.std.specs.Prelude.{◌≡◌, ℕ, ◌<◌, false, get_or, length, map, IsTrue, IfOk};
 ghost use Rattle.jx_index.specs.declared.units.Spelling.TheVariants.{InText};
 ghost use Rattle.jx_index.specs.Units.{chars_units};

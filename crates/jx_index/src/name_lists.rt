@@ -10,7 +10,7 @@ use jx_lex::Span;
 use std::alloc::AllocError;
 use std::cmp::Ordering;
 
-/// The names behind so many.
+/// The names after so many.
 pub(crate) fn names_behind(names: &[Span], count: usize) -> &[Span]
     ensures { result.now ≡ drop count names.now }
 {
@@ -66,7 +66,7 @@ fn first_repeated_by_order(
     Ok(first_equal(text, sorted))
 }
 
-/// How many names are told apart by comparing each key with each other.
+/// How many names are distinguished by comparing each key with each other.
 const FEW: usize = 96;
 
 /// The least start of a name that has the units of one before it, among names by place. Where there are few, and no two have

@@ -56,7 +56,7 @@ pub(crate) fn string_bytes<'a>(text: &'a [u8], span: Span) -> &'a [u8]
     keep(skip(string, 1), string.len().saturating_sub(2))
 }
 
-/// No bytes, which spell no units.
+/// No bytes, which encode no units.
 #[tactic(auto, unfolding(crate::specs::Units::chars_units))]
 fn no_bytes<'a>() -> &'a [u8]
     ensures { chars_units InText 0 result.now ≡ [] }
@@ -104,7 +104,7 @@ pub(crate) fn first_plain(bytes: &[u8], spelling: Spelling) -> Option<u8>
     }
 }
 
-/// What is left of two names behind the bytes with which both begin. The next bytes mostly decide.
+/// The rest of two names after the bytes with which both begin. The next bytes mostly decide.
 #[tactic(auto, unfolding(crate::specs::Units::chars_units))]
 fn compare_rests(left: &[u8], one: Spelling, right: &[u8], other: Spelling) -> Ordering
     ensures { result ≡ slice_cmp nat_cmp (chars_units one 0 left.now) (chars_units other 0 right.now) }
@@ -119,7 +119,7 @@ fn compare_rests(left: &[u8], one: Spelling, right: &[u8], other: Spelling) -> O
     }
 }
 
-/// Two names or tokens, as they are spelt. Bytes decide as long as each of them stands for one unit.
+/// Two names or tokens, as they are written. Bytes decide as long as each of them stands for one unit.
 fn compare_whole(left: &[u8], one: Spelling, right: &[u8], other: Spelling) -> Ordering
     ensures { result ≡ slice_cmp nat_cmp (chars_units one 0 left.now) (chars_units other 0 right.now) }
 {
@@ -147,7 +147,7 @@ fn compare_text(left: &[u8], right: &[u8]) -> Ordering
     compare_bytes(left, Spelling::InText, right, Spelling::InText)
 }
 
-/// Something as it is spelt against a token as a pointer spells it, by their units.
+/// Something as it is written against a token as a pointer encodes it, by their units.
 #[inline(always)]
 pub(crate) fn compare_spelt(bytes: &[u8], spelling: Spelling, token: &[u8]) -> Ordering
     ensures { result ≡ slice_cmp nat_cmp (chars_units spelling 0 bytes.now) (chars_units InToken 0 token.now) }
@@ -172,7 +172,7 @@ pub(crate) fn compare_names(text: &[u8], first: Span, second: Span) -> Ordering
     compare_text(string_bytes(text, first), string_bytes(text, second))
 }
 
-/// A member's name against a token as a pointer spells it.
+/// A member's name against a token as a pointer encodes it.
 pub(crate) fn compare_to_token(text: &[u8], rows: &[Row], node: NodeId, token: &[u8]) -> Ordering
     ensures { result ≡ slice_cmp nat_cmp (name_units text.now rows.now node) (chars_units InToken 0 token.now) }
 {

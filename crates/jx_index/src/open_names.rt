@@ -10,7 +10,7 @@ use crate::repeats::earlier;
 use jx_lex::{MarkKind, Span};
 use std::alloc::{AllocError, Global};
 
-/// An open container: whether it is an object, and how many of the names that are held belong to containers around it.
+/// An open container: whether it is an object, and how many of the kept names belong to containers around it.
 #[derive(Clone, Copy, Debug)]
 pub struct Holder {
     pub is_object: bool,
@@ -75,7 +75,7 @@ impl<'a> OpenNames<'a> {
         Ok(())
     }
 
-    /// The first name that the innermost open container repeats, where its names are those behind so many.
+    /// The first name that the innermost open container repeats, where its names are those after so many.
     fn repeated_behind(&mut self, before: usize) -> Result<Option<usize>, AllocError>
         ensures name { IfOk result (IsLeast (IsRepeatedName self.old.text.now (drop before self.old.names.items))) }
         ensures same { IfOk result (λ _. held self.new ≡ held self.old) }
@@ -88,7 +88,7 @@ impl<'a> OpenNames<'a> {
         )
     }
 
-    /// The innermost open container ends, if there is one, and its names are let go.
+    /// The innermost open container ends, if there is one, and its names are freed.
     fn end(&mut self) -> Result<(), AllocError>
         ensures { IfOk result (λ _. Ends (reverse self.old.opened.items) (held self.old) (held self.new)) }
     {
@@ -112,7 +112,7 @@ impl<'a> OpenNames<'a> {
         }
     }
 
-    /// One mark more, and the end that belongs to it where it begins a token. Only want of memory is refused.
+    /// Takes one more token start, and its end where it has one. Fails only when out of memory.
     pub(crate) fn mark(&mut self, kind: MarkKind, at: usize, end: usize) -> Result<(), AllocError>
         ensures { IfOk result (λ _. (text : List ℕ) (b : Building) → IsHeldOf text b (held self.old) → IsHeldOf text (on_mark kind at end b) (held self.new)) }
     {

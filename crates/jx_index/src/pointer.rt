@@ -51,8 +51,8 @@ fn is_bad_escape(bytes: &[u8], at: usize) -> bool
 }
 
 impl<'p> Pointer<'p> {
-    /// Reads a pointer as it is spelt. A text that is not empty and does not begin with `/` is refused first; else the
-    /// first `~` is, that neither `0` nor `1` follows. The text is borrowed, and no memory is taken.
+    /// Reads a pointer as it is written. A text that is not empty and does not begin with `/` is refused first; else
+    /// the first `~` is, that neither `0` nor `1` follows. The text is borrowed, and no memory is taken.
     pub fn read(text: &'p str) -> Result<Pointer<'p>, PointerFault>
         ensures same { IfOk result (λ pointer. pointer ≡ text.now) }
         ensures read { IfOk result (λ _. IsPointer text.now) }
@@ -77,7 +77,7 @@ impl<'p> Pointer<'p> {
         Pointer { text: "" }
     }
 
-    /// The bytes of the pointer as it is spelt.
+    /// The bytes of the pointer as it is written.
     pub(crate) fn bytes(&self) -> &'p [u8]
         ensures spelt { result.now ≡ self.now }
         ensures pointer { IsPointer self.now }

@@ -1,4 +1,4 @@
-// What pointers lead to (RFC 6901, section 4), by what was met at the nodes of a trie.
+// Answers to pointers (RFC 6901, section 4), by what was met at the nodes of a trie.
 ghost use Rattle.std.specs.Prelude.{◌≡◌, ◌<◌, Some, length, slice_get, IfOk};
 ghost use Rattle.std.specs.List.{AllZip};
 ghost use Rattle.jx_index.specs.declared.units.Spelling.TheVariants.{InToken};
@@ -69,7 +69,7 @@ fn read(wanted: &[Wanted], met: &[Met]) -> Result<Found, FindFault>
     }
 }
 
-/// What a pointer leads to, by what was met at the nodes of a trie.
+/// The answer to a pointer, by what was met at the nodes of a trie.
 fn read_one(
     alloc: Global,
     edges: &[Edge],
@@ -84,7 +84,7 @@ fn read_one(
     Ok(read(&wanted, &along))
 }
 
-/// What each pointer leads to, in order.
+/// The answer to each pointer, in order.
 pub(crate) fn read_each(
     alloc: Global,
     edges: &[Edge],

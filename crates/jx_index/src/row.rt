@@ -43,7 +43,7 @@ pub struct Row {
     pub span: Span,
     /// The array or object that it stands in; none for the root.
     pub parent: Option<NodeId>,
-    /// How many values stand before it in its parent; 0 for the root.
+    /// How many values are before it in its parent; 0 for the root.
     pub place: usize,
     /// Where its name stands, with the quotation marks, if its parent is an object.
     pub name: Option<Span>,

@@ -20,7 +20,7 @@ use jx_lex::{Depth, Span, tokens_are_read};
 use jx_run::{Front, NameRule, NoPause, Pace, Refusal, Settings, Verdict, front, read_into};
 use std::alloc::{AllocError, Global};
 
-/// The nodes of the text at a span, in one pass that keeps nothing else; the refusal where it is no text.
+/// The nodes of the text at a span, in one pass that keeps nothing else; the refusal where it is not a text.
 pub(crate) fn read_nodes<P: Pace>(
     alloc: Global,
     text: &[u8],
@@ -49,9 +49,9 @@ pub(crate) fn read_nodes<P: Pace>(
     }
 }
 
-/// Reads the bytes from an offset on as a whole text (RFC 8259, section 2) in one pass that keeps nothing but the rows. No
-/// children are listed, and no names sorted. Returns the rows where the text is accepted, else the refusal. It pauses where
-/// the pace says, which changes nothing of that. `Err` where memory is refused.
+/// Reads the bytes from an offset on as a whole text (RFC 8259, section 2) in one pass that keeps nothing but the rows.
+/// No children are listed, and no names sorted. Returns the rows where the text is accepted, else the refusal. It
+/// pauses where the pace says, which changes nothing of that. `Err` when out of memory.
 pub fn rows_from<P: Pace>(
     alloc: Global,
     text: &[u8],
@@ -87,8 +87,8 @@ fn rows_behind_front(
     }
 }
 
-/// The rows of a JSON text (RFC 8259) by settings: those of the index that `TextAnswer::read` makes, without the index. The
-/// refusal where it is no text, or where a name is refused. `Err` where memory is refused.
+/// The rows of a JSON text (RFC 8259) by settings: those of the index that `TextAnswer::read` makes, without the index.
+/// The refusal where it is not a text, or where a name is refused. `Err` when out of memory.
 pub fn read_rows(
     alloc: Global,
     text: &[u8],

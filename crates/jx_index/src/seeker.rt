@@ -1,4 +1,4 @@
-// What the pointers of a trie lead to, noted as the marks of a text come.
+// Look-ups of the pointers of a trie, noted as the token starts of a text come.
 ghost use Rattle.std.specs.Prelude.{◌≡◌, ◌<◌, ◌-◌, ◌^◌, List, reverse, IfOk};
 ghost use Rattle.jx_index.specs.declared.trie.Edge.{Edge};
 ghost use Rattle.jx_index.specs.inside.Finding.{begin_at, end_in, leaf_at, naming, nothing_met};
@@ -12,7 +12,7 @@ use crate::trie_nodes::{first_of_place, member};
 use jx_lex::{Kind, MarkKind, Span};
 use std::alloc::{AllocError, Global};
 
-/// What was met at each node of a trie, and the open containers at its nodes: the levels are numbers of nodes.
+/// The values met at each node of a trie, and the open containers at its nodes: the levels are numbers of nodes.
 #[derive(Drop)]
 pub struct Seeker<'s> {
     pub state: State,
@@ -44,7 +44,7 @@ fn innermost(opened: &[Cursor]) -> Option<Cursor>
 }
 
 impl<'s> Seeker<'s> {
-    /// Nothing was met yet at the nodes behind so many edges.
+    /// Nothing was met yet at the nodes after so many edges.
     pub fn new(alloc: Global, edges: usize, starts: &'s [usize]) -> Result<Seeker<'s>, AllocError>
         ensures state { IfOk result (λ seeker. finding seeker.state ≡ nothing_met edges) }
         ensures next { IfOk result (λ seeker. seeker.next ≡ 0) }
@@ -143,7 +143,7 @@ impl<'s> Seeker<'s> {
         self.next = 0;
     }
 
-    /// A mark where nothing is skipped, and the end that belongs to it where it begins a token.
+    /// A token start where nothing is skipped, and its end where it has one.
     #[inline(always)]
     fn among(
         &mut self,
@@ -173,7 +173,7 @@ impl<'s> Seeker<'s> {
         }
     }
 
-    /// One mark more, and the end that belongs to it where it begins a token. Only want of memory is refused.
+    /// Takes one more token start, and its end where it has one. Fails only when out of memory.
     pub(crate) fn mark(
         &mut self,
         text: &[u8],

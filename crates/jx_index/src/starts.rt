@@ -1,4 +1,4 @@
-// Where the edges of each node of a trie begin. What is told by that is tried by who takes it.
+// Where the edges of each node of a trie begin. Who takes such a place tests it.
 ghost use Rattle.std.specs.Prelude.{◌≡◌, ◌<◌, ◌≤◌, ℕ, length, slice_get, Some, IfOk};
 ghost use Rattle.jx_index.specs.declared.trie.Edge.{Edge};
 ghost use Rattle.jx_index.specs.inside.Trie.{is_placed};
@@ -60,8 +60,9 @@ pub(crate) fn edges_of(edges: &[Edge], starts: &[usize], node: usize) -> Span
     Span { start, end }
 }
 
-/// Where the first edge that does not stand before a key may be. In front of a place's edge stand those of no other places than
-/// the earlier ones, so where all of these have edges its own stands as far behind the first. Else the node's are halved.
+/// Where the first edge that is not before a key may be. In front of a place's edge stand those of no other places than
+/// the earlier ones, so where all of these have edges its own stands as far after the first. Else the node's are
+/// halved.
 pub(crate) fn near(edges: &[Edge], starts: &[usize], key: &Key) -> usize
     ensures { result ≤ length edges.now }
 {

@@ -10,19 +10,19 @@ use jx_lex::{Depth, Span};
 use jx_run::{Front, NameRule, NoPause, Pace, Refusal, Settings, TextRun, Verdict, front};
 use std::alloc::{AllocError, Global};
 
-/// What reading a JSON text comes to.
+/// The answer to a JSON text that is read: its index, or why it is refused.
 #[derive(Debug, Drop)]
 pub enum TextAnswer<'a> {
     /// It is a text within the depth; this is its index.
     Accepted(Indexed<'a>),
-    /// It is none. Offsets are in the whole input.
+    /// It is not valid JSON. Offsets are in the whole input.
     Refused(Refusal),
 }
 
 impl<'a> TextAnswer<'a> {
     /// Reads a JSON text (RFC 8259) by settings on the calling thread in one pass, and indexes it where it is accepted.
     /// A byte order mark in front may be ignored (section 8.1). Where names have to be unique, a text is refused at the
-    /// first duplicate name (section 4). `Err` where memory is refused.
+    /// first duplicate name (section 4). `Err` when out of memory.
     pub fn read(
         alloc: Global,
         text: &'a [u8],
@@ -51,8 +51,8 @@ impl<'a> TextAnswer<'a> {
         }
     }
 
-    /// Reads the bytes from an offset on as a whole text (RFC 8259, section 2) in one pass, which pauses where the pace says;
-    /// that changes nothing of the answer. `Err` where memory is refused.
+    /// Reads the bytes from an offset on as a whole text (RFC 8259, section 2) in one pass, which pauses where the pace
+    /// says; that changes nothing of the answer. `Err` when out of memory.
     pub fn read_from<P: Pace>(
         alloc: Global,
         text: &'a [u8],
@@ -72,7 +72,7 @@ impl<'a> TextAnswer<'a> {
         }
     }
 
-    /// The answer that a run over the end of a text gives on what the run stands for. `Err` where memory is refused.
+    /// The answer that a run over the end of a text gives on what the run stands for. `Err` when out of memory.
     pub fn of_run(
         alloc: Global,
         text: &'a [u8],
@@ -108,7 +108,7 @@ impl<'a> TextAnswer<'a> {
         }
     }
 
-    /// The verdict alone; the index is let go.
+    /// The verdict alone; the index is freed.
     pub fn into_verdict(self) -> Verdict
         ensures verdict { (settings : Settings) (text : List ℕ) → IsAnswerBy settings text self.entry → IsVerdictBy settings text result }
     {

@@ -18,7 +18,7 @@ pub struct Edge<'p> {
     pub parent: usize,
     /// The place that the token names in an array, or the greatest `usize`.
     pub place: usize,
-    /// The token as it is spelt.
+    /// The token as it is written.
     pub name: &'p [u8],
 }
 
@@ -70,7 +70,7 @@ pub(crate) fn compare_edges(one: &Edge, other: &Edge) -> Ordering
     }
 }
 
-/// What an edge is looked for by: the node that it leads from, a place, or the greatest `usize`, and the spelt token.
+/// The key of an edge: the node that it leads from, a place, or the greatest `usize`, and the token as it is written.
 #[derive(Clone, Copy, Debug)]
 pub struct Key<'k> {
     pub node: usize,
@@ -79,7 +79,7 @@ pub struct Key<'k> {
     pub spelling: Spelling,
 }
 
-/// Whether an edge stands before a key. No bytes stand before all tokens.
+/// Whether an edge is before a key. No bytes are before all tokens.
 pub(crate) fn is_before_key(edge: &Edge, key: &Key) -> bool
     ensures { result ≡ is_lt (slice_cmp nat_cmp (edge_key edge.now) (sought_key key.now)) }
 {
@@ -95,7 +95,7 @@ pub(crate) fn is_before_key(edge: &Edge, key: &Key) -> bool
     compare_spelt(key.bytes, key.spelling, edge.name).is_gt()
 }
 
-/// Whether an edge leads on from a node by a token or a name, as it is spelt.
+/// Whether an edge leads on from a node by a token or a name, as it is written.
 #[inline(always)]
 pub(crate) fn leads_by(edge: &Edge, node: usize, bytes: &[u8], spelling: Spelling) -> bool
     ensures { result ≡ leads_to_units node (chars_units spelling 0 bytes.now) edge.now }

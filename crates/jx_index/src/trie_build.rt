@@ -13,14 +13,14 @@ use crate::trie::{Edge, compare_edges, edge_of};
 use crate::units::skip;
 use std::alloc::{AllocError, Global};
 
-/// A pointer of which some tokens are in the trie: the edge of the next one, and what stands behind that.
+/// A pointer of which some tokens are in the trie: the edge of the next one, and what follows that.
 #[derive(Clone, Copy, Debug)]
 pub struct Part<'p> {
     pub edge: Edge<'p>,
     pub rest: &'p [u8],
 }
 
-/// What is left of a pointer from a node on.
+/// The rest of a pointer from a node on.
 fn part_of<'p>(node: usize, rest: &'p [u8]) -> Part<'p>
     requires some { 0 < length rest.now }
     requires slash { HasSlash rest.now }
@@ -34,7 +34,7 @@ fn part_of<'p>(node: usize, rest: &'p [u8]) -> Part<'p>
     }
 }
 
-/// What is left of pointers from the root on, but for those that lead to it.
+/// The rests of pointers from the root on, but for those that lead to it.
 fn parts_of<'p>(alloc: Global, pointers: &[Pointer<'p>]) -> Result<Vec<Part<'p>>, AllocError>
     ensures { IfOk result (λ parts. IsLevel pointers.now [] parts.items) }
 {

@@ -16,7 +16,7 @@ use crate::units::{Spelling, skip};
 use jx_lex::Span;
 use std::alloc::{AllocError, Global};
 
-/// Whether there is an edge with this number, and it stands before a key.
+/// Whether there is an edge with this number, and it is before a key.
 fn stands_before(edges: &[Edge], at: usize, key: &Key) -> bool
     ensures { result ≡ stands_before (slice_get edges.now at) (sought_key key.now) }
 {
@@ -26,7 +26,7 @@ fn stands_before(edges: &[Edge], at: usize, key: &Key) -> bool
     }
 }
 
-/// Whether all edges before this number stand before a key, as far as the last of them tells.
+/// Whether all edges before this number are before a key, as far as the last of them shows.
 fn follows(edges: &[Edge], at: usize, key: &Key) -> bool
     ensures { result ≡ follows edges.now at (sought_key key.now) }
 {
@@ -36,7 +36,7 @@ fn follows(edges: &[Edge], at: usize, key: &Key) -> bool
     stands_before(edges, at - 1, key)
 }
 
-/// Whether the edge with this number is the first that does not stand before a key, as its neighbour and itself tell.
+/// Whether the edge with this number is the first that is not before a key, as its neighbour and itself show.
 fn is_first(edges: &[Edge], at: usize, key: &Key) -> bool
     ensures within { IsTrue result → at ≤ length edges.now }
     ensures first { IsTrue result → IsTrie edges.now → IsFirstFrom edges.now (sought_key key.now) at }
@@ -44,7 +44,7 @@ fn is_first(edges: &[Edge], at: usize, key: &Key) -> bool
     follows(edges, at, key) && !stands_before(edges, at, key)
 }
 
-/// The number of the first edge that does not stand before a key, or of what stands there in its stead. It is mostly that which
+/// The number of the first edge that is not before a key, or of what stands there in its stead. It is mostly that which
 /// the starts lead to; where they are wrong all edges are halved.
 fn first_from(edges: &[Edge], starts: &[usize], key: &Key) -> usize
     ensures within { result ≤ length edges.now }
@@ -81,7 +81,7 @@ fn child_by_order(
     }
 }
 
-/// Whether no edge in front of this number leads from a node, as its neighbour tells.
+/// Whether no edge in front of this number leads from a node, as its neighbour shows.
 #[inline(always)]
 fn begins_at(edges: &[Edge], node: usize, at: usize) -> bool
     ensures { IsTrue result → IsTrie edges.now → BeginsAt edges.now node at }
@@ -95,7 +95,7 @@ fn begins_at(edges: &[Edge], node: usize, at: usize) -> bool
     }
 }
 
-/// Whether no edge from this number on leads from a node, as the first of them tells.
+/// Whether no edge from this number on leads from a node, as the first of them shows.
 #[inline(always)]
 fn ends_at(edges: &[Edge], node: usize, at: usize) -> bool
     ensures { IsTrue result → IsTrie edges.now → EndsAt edges.now node at }
@@ -185,7 +185,7 @@ pub(crate) fn first_of_place(edges: &[Edge], starts: &[usize], node: usize, plac
     first_from(edges, starts, &key)
 }
 
-/// What was met at a node.
+/// The values met at a node.
 pub(crate) fn met_at(met: &[Met], node: usize) -> Met
     ensures { result ≡ met_at met.now node }
 {
@@ -195,7 +195,7 @@ pub(crate) fn met_at(met: &[Met], node: usize) -> Met
     }
 }
 
-/// What was met where a pointer's tokens lead, the root first.
+/// The values met where a pointer's tokens lead, the root first.
 pub(crate) fn met_along(
     alloc: Global,
     edges: &[Edge],

@@ -18,7 +18,7 @@ use jx_run::{Front, Pace, Refusal, Settings, Verdict, front, read_into};
 use std::alloc::{AllocError, Global};
 use std::marker::{Brand, PhantomData};
 
-/// Which bytes a text has, for names that are held of it. A call picks it.
+/// The bytes of a text, for names that are kept of it. A call picks them.
 pub trait Source {
     ghost use Rattle.std.specs.Prelude.{ℕ, List};
 
@@ -81,10 +81,10 @@ fn repeated_name_of<S: Source, P: Pace>(
     }
 }
 
-/// Reads the bytes of a span as a whole text (RFC 8259, section 2) in one pass, and looks for a name that an object repeats.
-/// Returns the start of the first one, if there is one; names are compared as lists of UTF-16 code units. Returns the
-/// refusal where the bytes are no text. It holds the names of open objects alone. It pauses where the pace says, which
-/// changes nothing of that. `Err` where memory is refused.
+/// Reads the bytes of a span as a whole text (RFC 8259, section 2) in one pass, and looks for a name that an object
+/// repeats. Returns the start of the first one, if there is one; names are compared as lists of UTF-16 code units.
+/// Returns the refusal where the bytes are not a text. It holds the names of open objects alone. It pauses where the
+/// pace says, which changes nothing of that. `Err` when out of memory.
 pub fn repeated_name<P: Pace>(
     alloc: Global,
     text: &[u8],
@@ -112,9 +112,9 @@ fn accepted_unless(name: Option<usize>) -> Verdict
     }
 }
 
-/// The verdict on a JSON text (RFC 8259) whose objects may repeat no name (section 4), by settings that say so. The calling
-/// thread reads the text in one pass, as `repeated_name` does. A byte order mark in front may be ignored (section 8.1).
-/// `Err` where memory is refused.
+/// The verdict on a JSON text (RFC 8259) whose objects may repeat no name (section 4), by settings that say so. The
+/// calling thread reads the text in one pass, as `repeated_name` does. A byte order mark in front may be ignored
+/// (section 8.1). `Err` when out of memory.
 pub fn verdict_with_unique_names<P: Pace>(
     alloc: Global,
     text: &[u8],

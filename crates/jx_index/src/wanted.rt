@@ -9,7 +9,7 @@ use crate::pointer::Pointer;
 use crate::units::skip;
 use std::alloc::{AllocError, Global};
 
-/// A token of a pointer as it is spelt.
+/// A token of a pointer as it is written.
 #[derive(Clone, Copy, Debug)]
 pub struct Wanted<'p> {
     pub name: &'p [u8],

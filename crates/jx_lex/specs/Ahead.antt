@@ -1,8 +1,8 @@
--- What a tested stretch of a text says.
+-- Bytes of a text that were tested for UTF-8.
 use Rattle.std.specs.Prelude.{ℕ, ◌≤◌, ◌<◌, List, length, slice_range, IsUtf8}
 use Rattle.jx_lex.specs.declared.scanner.ahead.Ahead.{Ahead}
 
--- the stretch lies in the text, and is well-formed UTF-8
+-- the tested bytes lie in the text, and are well-formed UTF-8
 pub record IsSound (text : List ℕ) (ahead : Ahead) : Type 0 where
   pub order : ahead.from ≤ ahead.to
   pub within : ahead.to ≤ length text

@@ -6,7 +6,7 @@ pub record IsWithin (first last byte : ℕ) : Type 0 where
   pub from : first ≤ byte
   pub to : byte ≤ last
 
--- the bytes that stand behind the first one of a character
+-- the bytes that follow the first one of a character
 abbrev pub IsTail : ℕ → Type 0
 IsTail byte = IsWithin 0x80 0xbf byte
 

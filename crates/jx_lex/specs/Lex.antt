@@ -13,13 +13,13 @@ pub data LexExit : Type 0 where
   state : LexState → LexExit
   fault : ℕ → LexExit
 
--- what reading gives: the marks, the ends of tokens and the exit
+-- what reading gives: the token starts, the ends of tokens and the exit
 pub record Track : Type 0 where
   pub marks : List Mark
   pub ends : List ℕ
   pub exit : LexExit
 
--- the mark of a step, if it has one, in front of the others
+-- the token start of a step, if it has one, in front of the others
 abbrev pub with_mark : Option MarkKind → ℕ → List Mark → List Mark
 with_mark None at marks = marks
 with_mark (Some k) at marks = record { kind = k; at = at } ∷ marks

@@ -33,7 +33,7 @@ close = record { end = Some After; begin = None; next = Some state.Gap }
 
 -- ---- between tokens
 
--- blanks, structural bytes and the first bytes of tokens
+-- white space, structural bytes and the first bytes of tokens
 abbrev pub in_Gap : Class → Step
 in_Gap class.Blank = go state.Gap
 in_Gap class.Space = go state.Gap

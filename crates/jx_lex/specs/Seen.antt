@@ -1,4 +1,4 @@
--- What a sink of tokens has seen, and how it grows.
+-- The tokens that a sink has seen, and how they grow.
 use Rattle.std.specs.Prelude.{◌≡◌, ℕ, ◌+◌, Bool, true, false, List, [], ◌∷◌, ◌++◌, length, Option, Some, None}
 use Rattle.jx_lex.specs.declared.alphabet.state.LexState.{LexState}
 use Rattle.jx_lex.specs.declared.alphabet.lex_exit.LexExit.{LexExit}
@@ -15,32 +15,32 @@ use Rattle.jx_lex.specs.Lex.{Track, lex}
 use Rattle.jx_lex.specs.Moves.{move}
 use Rattle.jx_lex.specs.TokenStates.{in_token}
 
--- which marks and ends a sink may have seen
+-- which token starts and ends a sink may have seen
 abbrev pub Seen : Type 1
 Seen = List Mark → List ℕ → Type 0
 
--- whatever was seen before, these marks and ends were seen behind it
+-- whatever was seen before, these token starts and ends were seen after it
 abbrev pub Grows : Seen → Seen → List Mark → List ℕ → Type 0
 Grows old new more others = (marks : List Mark) (ends : List ℕ) → old marks ends → new (marks ++ more) (ends ++ others)
 
--- the marks and ends of a reading
+-- the token starts and ends of a reading
 abbrev pub SeesTrack : Seen → Seen → Track → Type 0
 SeesTrack old new track = Grows old new track.marks track.ends
 
--- nothing more is wanted: what counts as seen stays so, whatever marks and ends come behind
+-- nothing more is wanted: what counts as seen stays so, whatever token starts and ends come after
 abbrev pub WantsNoMore : Seen → Type 0
 WantsNoMore seen = (marks more : List Mark) (ends others : List ℕ) → seen marks ends → seen (marks ++ more) (ends ++ others)
 
--- the marks and ends of a reading that led to a state
+-- the token starts and ends of a reading that led to a state
 pub record GoesTo (old new : Seen) (track : Track) (to : LexState) : Type 0 where
   pub seen : SeesTrack old new track
   pub exit : track.exit ≡ reading.state to
 
--- what a sink may be told of next: an end (true), or a mark
+-- what a sink may be given next: an end (true), or a token start
 abbrev pub Awaits : Type 1
 Awaits = Bool → Type 0
 
--- a string, a number or a literal begins with such a mark, so an end comes behind it
+-- a string, a number or a literal begins with such a token start, so an end comes after it
 abbrev pub has_end : MarkKind → Bool
 has_end mark.String = true
 has_end mark.Number = true
@@ -55,7 +55,7 @@ Takes awaits (Some end) begin = awaits true
 Takes awaits None (Some kind) = awaits false
 Takes awaits None None = Unit {0}
 
--- what it awaits behind that byte
+-- what it awaits after that byte
 abbrev pub Leaves : Awaits → Awaits → Option MarkKind → Option TokenEnd → Type 0
 Leaves old new (Some kind) end = new (has_end kind)
 Leaves old new None (Some end) = new false
@@ -66,12 +66,12 @@ abbrev pub AwaitsAt : Awaits → LexExit → Type 0
 AwaitsAt awaits (State s) = awaits (in_token s)
 AwaitsAt awaits (Fault at) = Unit {0}
 
--- what a contract sees of the marks and ends of tokens
+-- token starts and ends as contracts see them
 pub record TokenLists : Type 0 where
   pub marks : List Mark
   pub ends : List ℕ
 
--- those of a reading behind them
+-- those of a reading after them
 abbrev pub with_tokens : TokenLists → Track → TokenLists
 with_tokens tokens track = record { marks = tokens.marks ++ track.marks; ends = tokens.ends ++ track.ends }
 

@@ -1,5 +1,5 @@
--- Blanks, strings, numbers and literals (RFC 8259, sections 2, 3, 6 and 7), each as a whole list of bytes. Over each
--- definition stands the rule of the standard's grammar (RFC 5234) that it says.
+-- White space, strings, numbers and literals (RFC 8259, sections 2, 3, 6 and 7), each as a whole list of bytes. Over
+-- each definition stands the rule of the standard's grammar (RFC 5234) that it says.
 use Rattle.std.specs.Prelude.{◌≡◌, ◌≢◌, ℕ, ◌+◌, ◌*◌, ◌≤◌, ◌⊎◌, ◌==◌, if◌then◌else◌, List, [], ◌∷◌, ◌++◌, codes}
 use Rattle.std.specs.Char.{digit_value}
 use Rattle.std.specs.Char.Escape.{encode_utf16}
@@ -101,7 +101,7 @@ escaped_unit b =
     if b == 0x72 then 0x0d else
     if b == 0x74 then 0x09 else b
 
--- the number that four hexadecimal digits spell
+-- the number that four hexadecimal digits encode
 abbrev pub hex_unit : ℕ → ℕ → ℕ → ℕ → ℕ
 hex_unit a b c d = digit_value a * 4096 + digit_value b * 256 + digit_value c * 16 + digit_value d
 
@@ -126,7 +126,7 @@ pub data IsString : List ℕ → List ℕ → Type 0 where
 
 -- ---- tokens (section 3)
 
--- a token of a kind; an object and an array are none
+-- a token of a kind; an object and an array are no tokens
 --   false = %x66.61.6C.73.65, null = %x6E.75.6C.6C, true = %x74.72.75.65
 abbrev pub IsToken : Kind → List ℕ → Type 0
 IsToken String w = (units : List ℕ) × IsString w units

@@ -27,7 +27,7 @@ pub data IsFinal : LexState → Type 0 where
   final_frac : IsFinal state.Frac
   final_exp : IsFinal state.Exp
 
--- the mark with which a value of a kind begins
+-- the token start with which a value of a kind begins
 abbrev pub mark_of : Kind → MarkKind
 mark_of kind.Object = mark.OpenObject
 mark_of kind.Array = mark.OpenArray
@@ -37,7 +37,7 @@ mark_of kind.True = mark.True
 mark_of kind.False = mark.False
 mark_of kind.Null = mark.Null
 
--- the bytes are read as one token, which begins with such a mark
+-- the bytes are read as one token, which begins with such a token start
 pub record IsRead (k : MarkKind) (w : List ℕ) : Type 0 where
   pub first : ℕ
   pub bytes : List ℕ

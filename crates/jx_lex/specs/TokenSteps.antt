@@ -1,4 +1,4 @@
--- What a byte may do, in a token and between tokens.
+-- The effects that a byte may have, in a token and between tokens.
 use Rattle.std.specs.Prelude.{◌≡◌, ℕ, true}
 use Rattle.jx_lex.specs.declared.kind.Kind.{Kind}
 use Rattle.jx_lex.specs.declared.kind.Kind.TheVariants as kind
@@ -18,7 +18,7 @@ pub data TokenStep (s : LexState) (b : ℕ) : Type 0 where
   ended : IsFinal s → move s b ≡ as_gap (class_at b) → TokenStep s b
   fails : move s b ≡ fault → TokenStep s b
 
--- the structural bytes (RFC 8259, section 2) and their marks
+-- the structural bytes (RFC 8259, section 2) and their token starts
 pub data IsStructural : ℕ → MarkKind → Type 0 where
   open_array : IsStructural 0x5b mark.OpenArray
   close_array : IsStructural 0x5d mark.CloseArray
@@ -33,7 +33,7 @@ IsScalar kind.Object = ⊥
 IsScalar kind.Array = ⊥
 IsScalar _ = Unit {0}
 
--- between tokens: a blank, the first byte of a token, or a structural byte; or the byte is a fault
+-- between tokens: white space, the first byte of a token, or a structural byte; or the byte is a fault
 pub data GapStep (b : ℕ) : Type 0 where
   a_blank : IsBlank b → move state.Gap b ≡ go state.Gap → GapStep b
   a_token : (k : Kind) (entry : LexState) → IsScalar k → in_token entry ≡ true → move state.Gap b ≡ begin (mark_of k) entry → GapStep b

@@ -1,14 +1,14 @@
--- What reading two pieces gives, one behind the other.
+-- The reading of two parts, one after the other.
 use Rattle.std.specs.Prelude.{◌++◌}
 use Rattle.jx_lex.specs.declared.alphabet.state.LexState.{LexState}
 use Rattle.jx_lex.specs.Lex.{LexExit, Track, stops_at}
 
--- the second is read from the state that the first leads to; behind a fault nothing is read
+-- the second is read from the state that the first leads to; after a fault nothing is read
 abbrev pub right_of : LexExit → (LexState → Track) → Track
 right_of (LexExit.state s) right = right s
 right_of (LexExit.fault at) right = stops_at at
 
--- what the first gives, and behind it what the second gives
+-- what the first gives, and after it what the second gives
 abbrev pub joined : Track → (LexState → Track) → Track
 joined left right =
     let r = right_of left.exit right in

@@ -1,4 +1,4 @@
--- Stretches of bytes over which the lexical machine keeps its state, or comes back to it, with no event.
+-- Bytes over which the lexical machine keeps its state, or returns to it, with no event.
 use Rattle.std.specs.Prelude.{◌≡◌, ℕ, Bool, not, ◌&&◌, ◌||◌, ◌==◌, nat_le, List, [], ◌∷◌}
 use Rattle.jx_lex.specs.declared.alphabet.state.LexState.{LexState}
 use Rattle.jx_lex.specs.Moves.{move, go}

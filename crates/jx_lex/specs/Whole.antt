@@ -1,4 +1,4 @@
--- Whole tokens and blanks, read from between tokens on.
+-- Whole tokens and white space, read from between tokens on.
 use Rattle.std.specs.Prelude.{◌≡◌, ◌≤◌, ◌<◌, ◌==◌, ℕ, List, [], ◌∷◌, if◌then◌else◌, length, Some, slice_index, slice_range}
 use Rattle.jx_lex.specs.declared.alphabet.state.LexState.{LexState}
 use Rattle.jx_lex.specs.declared.alphabet.state.LexState.TheVariants as state
@@ -10,7 +10,7 @@ use Rattle.jx_lex.specs.Lex as reading
 use Rattle.jx_lex.specs.Lex.{lex}
 use Rattle.jx_lex.specs.Moves.{move}
 
--- the bytes between two offsets are read from between tokens to between tokens, and have these marks and ends
+-- the bytes between two offsets are read from between tokens to between tokens, and have these token starts and ends
 pub record Passes (text : List ℕ) (from to : ℕ) (marks : List Mark) (ends : List ℕ) : Type 0 where
   pub low : from ≤ to
   pub fits : to ≤ length text
@@ -36,7 +36,7 @@ pub record PassesNumber (text : List ℕ) (from to : ℕ) : Type 0 where
   pub ends_are : (lex state.Gap from (slice_range text from to)).ends ≡ []
   pub exit : (lex state.Gap from (slice_range text from to)).exit ≡ reading.state last
 
--- a mark of `true`, `false` or `null`
+-- a token start of `true`, `false` or `null`
 pub data IsLiteral : MarkKind → Type 0 where
   is_true : IsLiteral True
   is_false : IsLiteral False

@@ -1,5 +1,5 @@
-// The alphabet and the machine: classes of bytes, the states, what a byte does in each, and the marks and exits that come
-// of it.
+// The alphabet and the machine: classes of bytes, the states, what a byte does in each, and the token starts and exits
+// that come of it.
 pub(crate) mod cell;
 pub(crate) mod cells;
 pub(crate) mod class;

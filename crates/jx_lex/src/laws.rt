@@ -12,13 +12,13 @@ ghost use Rattle.jx_lex.specs.TokenStates.{IsRead, in_token, mark_of};
 ghost use Rattle.jx_lex.specs.TokenSteps.{GapStep, TokenStep};
 ghost use Rattle.jx_lex.specs.TwoPieces.{joined};
 
-/// Bytes that keep the state and have no event may be passed over, and so may those that lead back to it.
+/// Bytes that keep the state and have no event may be skipped, and so may those that lead back to it.
 pub fn uneventful_bytes_may_be_passed_over()
     ensures kept { (s : LexState) (at : ℕ) (run bytes : List ℕ) → AllKeep s run → lex s at (run ++ bytes) ≡ lex s (at + length run) bytes }
     ensures led { (s t : LexState) (at : ℕ) (run bytes : List ℕ) → Leads s run t → lex s at (run ++ bytes) ≡ lex t (at + length run) bytes }
 {}
 
-/// Bytes are read piece by piece: the second goes on in the state that the first leads to, and behind a fault nothing is
+/// Bytes are read part by part: the second goes on in the state that the first leads to, and after a fault nothing is
 /// read.
 pub fn pieces_are_read_in_turn()
     ensures two { (s : LexState) (at : ℕ) (first rest : List ℕ) → lex s at (first ++ rest) ≡ joined (lex s at first) (λ next. lex next (at + length first) rest) }
@@ -26,8 +26,8 @@ pub fn pieces_are_read_in_turn()
         → lex s a (slice_range text a c) ≡ joined (lex s a (slice_range text a b)) (λ next. lex next b (slice_range text b c)) }
 {}
 
-/// What is read as one token is exactly a token of RFC 8259 (sections 3, 6 and 7). Also what a byte may do, in a token
-/// and between tokens.
+/// Exactly the tokens of RFC 8259 (sections 3, 6 and 7) are read as one token. Also what a byte may do, in a token and
+/// between tokens.
 pub fn tokens_are_read()
     ensures reads { (kind : Kind) (bytes : List ℕ) → IsToken kind bytes → IsRead (mark_of kind) bytes }
     ensures tokens { (kind : Kind) (bytes : List ℕ) → IsRead (mark_of kind) bytes → IsToken kind bytes }

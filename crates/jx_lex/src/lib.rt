@@ -1,5 +1,5 @@
-//! The lexical layer of JSON texts: byte classes, the lexical machine and its marks, and the scan of a text from a known
-//! state.
+//! The lexical layer of JSON texts: byte classes, the lexical machine and its token starts, and the scan of a text from
+//! a known state.
 #![tactic(auto)]
 
 mod alphabet;

@@ -30,7 +30,7 @@ use crate::scanner::string_chars::string_end_ahead;
 use crate::scanner::token_rest::{gap_end, literal_end, more_digits, number_rest};
 use std::alloc::AllocError;
 
-/// Takes in what one byte does: its mark and its end are seen. Gives the next state, or none at a fault.
+/// Takes in what one byte does: its token start and its end are seen. Gives the next state, or none at a fault.
 #[inline(always)]
 fn take_in<K: TokenSink>(
     sink: &mut K,
@@ -154,8 +154,8 @@ fn colon<K: TokenSink>(
     Ok(from)
 }
 
-/// Reads the rest of a string, with the quotation mark that ends it and a colon behind it, from the state inside the string
-/// on.
+/// Reads the rest of a string, with the quotation mark that ends it and a colon after it, from the state inside the
+/// string on.
 #[inline(always)]
 fn string_rest<K: TokenSink>(
     sink: &mut K,
@@ -226,7 +226,7 @@ fn comma<K: TokenSink>(
     Ok(from)
 }
 
-/// Reads the rest of a number, with a comma behind it, and gives its end.
+/// Reads the rest of a number, with a comma after it, and gives its end.
 #[inline(always)]
 fn number<K: TokenSink>(
     sink: &mut K,
@@ -295,8 +295,8 @@ fn pass_on<K: TokenSink>(
     }
 }
 
-/// Reads on from the state to which this byte led, over the rest of a token or over blanks. Gives their end, and sets the
-/// state behind them. Behind a string, a comma or blanks the sink may go on by itself.
+/// Reads on from the state to which this byte led, over the rest of a token or over white space. Gives their end, and
+/// sets the state after them. After a string, a comma or white space the sink may go on by itself.
 #[inline(always)]
 fn read_rest<K: TokenSink>(
     sink: &mut K,
@@ -341,7 +341,7 @@ fn read_rest<K: TokenSink>(
     }
 }
 
-/// What is known of the UTF-8 ahead of bytes that are read from this state on.
+/// The knowledge of the UTF-8 ahead, for bytes that are read from this state on.
 #[inline(always)]
 fn known_ahead(state: LexState) -> Ahead
     ensures sound { (text : List ℕ) → IsSound text result }
@@ -356,10 +356,10 @@ fn known_ahead(state: LexState) -> Ahead
 }
 
 /// Reads the bytes of a text from one offset to another, from a known lexical state, into a sink. What the sink has
-/// seen grows by the marks and ends of that reading, with their offsets in the text.
+/// seen grows by the token starts and ends of that reading, with their offsets in the text.
 ///
 /// Returns where the reading ends, or none where the sink wanted no more before. Then the rest was not looked at, and
-/// what the sink has seen stands for it too. Where memory is refused, the sink is of no more use.
+/// what the sink has seen stands for it too. When out of memory, the sink is of no more use.
 pub fn scan<K: TokenSink>(
     sink: &mut K,
     state: LexState,

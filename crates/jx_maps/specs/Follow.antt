@@ -7,7 +7,7 @@ use Rattle.jx_maps.specs.declared.link.Link.{Link}
 use Rattle.jx_maps.specs.declared.link.Link.TheVariants.{Ahead, State, Fault}
 use Rattle.jx_lex.specs.Ordinal.{ordinal}
 
--- what a contract sees of a segment
+-- a segment as contracts see it
 pub record SegmentValue : Type 0 where
   pub marks : List Mark
   pub ends : List ℕ
@@ -19,7 +19,7 @@ done e = record { marks = []; ends = []; exit = e }
 abbrev pub behind : SegmentValue → Track → Track
 behind p t = record { marks = p.marks ++ t.marks; ends = p.ends ++ t.ends; exit = t.exit }
 
--- the track from here on: Ahead k is the segment behind the next k ones
+-- the track from here on: Ahead k is the segment after the next k ones
 unfoldable pub follow : List SegmentValue → Link → Track
 follow ps (State s) = done (state s)
 follow ps (Fault at) = done (fault at)

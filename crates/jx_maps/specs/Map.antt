@@ -1,4 +1,4 @@
--- What a contract sees of a chunk map.
+-- A chunk map as contracts see it.
 use Rattle.std.specs.Prelude.{◌≡◌, ◌⊎◌, ℕ, ◌+◌, ◌≤◌, ◌<◌, List, [], ◌∷◌, ◌++◌, length, map}
 use Rattle.jx_lex.specs.declared.alphabet.state.LexState.{LexState}
 use Rattle.jx_lex.specs.Lex.{LexExit, Track, lex}
@@ -37,17 +37,17 @@ abbrev pub stored : List SegmentValue → ℕ
 stored [] = 0
 stored (p ∷ ps) = length p.marks + stored ps
 
--- marks in rising order, each of a byte from one offset up to another
+-- token starts in rising order, each of a byte from one offset up to another
 abbrev pub MarksIn : ℕ → ℕ → List Mark → Type 0
 MarksIn from to [] = Unit {0}
 MarksIn from to (m ∷ ms) = (from ≤ m.at) × (m.at < to) × MarksIn (m.at + 1) to ms
 
--- the marks of each segment
+-- the token starts of each segment
 abbrev pub ArePlaced : ℕ → ℕ → List SegmentValue → Type 0
 ArePlaced from to [] = Unit {0}
 ArePlaced from to (p ∷ ps) = MarksIn from to p.marks × ArePlaced from to ps
 
--- both maps, one behind the other
+-- both maps, one after the other
 abbrev pub joined_map : Map → Map → Map
 joined_map l r =
     record {

@@ -8,7 +8,7 @@ use Rattle.jx_maps.specs.declared.link.Link.TheVariants.{Ahead, State, Fault}
 use Rattle.jx_maps.specs.Follow.{SegmentValue}
 use Rattle.jx_lex.specs.Ordinal.{ordinal, all_states}
 
--- the states that are held after a byte
+-- the states that are kept after a byte
 abbrev pub add_next : Option LexState → List LexState → List LexState
 add_next None more = more
 add_next (Some t) more = t ∷ more
@@ -23,7 +23,7 @@ has s held = list_any (λ t. ordinal t == ordinal s) held
 abbrev pub begins : ℕ → LexState → Bool
 begins byte s = is_some ((move s byte).begin)
 
--- how many different states that are held begin a mark with this byte
+-- how many different states that are kept begin a token start with this byte
 abbrev pub beginning : ℕ → List LexState → ℕ
 beginning byte held = count_by (λ s. has s held && begins byte s) all_states
 
@@ -31,7 +31,7 @@ unfoldable pub shared_from : List LexState → List ℕ → ℕ
 shared_from held [] = 0
 shared_from held (b ∷ bs) = beginning b held + shared_from (held_after b held) bs
 
--- the sum over the bytes, where at the start all states are held
+-- the sum over the bytes, where at the start all states are kept
 abbrev pub shared_count : List ℕ → ℕ
 shared_count bytes = shared_from all_states bytes
 

@@ -1,4 +1,4 @@
--- What a contract sees of a view of a track.
+-- A view of a track as contracts see it.
 use Rattle.std.specs.Prelude.{ℕ, zero, suc, List, [], ◌∷◌, get_or}
 use Rattle.jx_lex.specs.Lex as lex
 use Rattle.jx_lex.specs.declared.alphabet.mark.Mark.{Mark}
@@ -25,7 +25,7 @@ path_from n (p ∷ ps) (link.Ahead (suc k)) = path_from (suc n) ps (link.Ahead k
 abbrev pub view_path : View → List ℕ
 view_path v = path_from 0 v.segments v.first
 
--- the marks of the segment of this number
+-- the token starts of the segment of this number
 abbrev pub marks_at : List SegmentValue → ℕ → List Mark
 marks_at ps n = (get_or ps n (record { marks = []; ends = []; next = link.Fault 0 })).marks
 

@@ -74,7 +74,7 @@ impl Bundle {
         }
     }
 
-    /// Puts this segment behind the others; the track from this state begins with it.
+    /// Puts this segment after the others; the track from this state begins with it.
     fn add_segment(&mut self, state: LexState, segment: Segment) -> Result<(), AllocError>
         ensures { OnOk result (self.new ≡ with_segment state segment self.old.live self.old) }
     {

@@ -1,4 +1,4 @@
-// What reading a span gives from each state.
+// The reading of a span from each state.
 ghost use Rattle.std.specs.Prelude.{◌≡◌, ◌⊎◌, ◌≤◌, ◌<◌, ◌+◌, ◌++◌, length, IfOk, IfErr, slice_range, ℕ, List};
 ghost use Rattle.jx_lex.specs.declared.alphabet.state.LexState.{LexState};
 ghost use Rattle.jx_maps.specs.View.{view_track};
@@ -22,8 +22,8 @@ const MANY_BYTES: usize = 16;
 /// How many bytes a beginning has at least. Tracks that meet have mostly met by then.
 const BEGINNING: usize = 64;
 
-/// The reading of a part of a text from each of the 32 lexical states, without what stands to its left: marks, ends and
-/// an exit for each. Tracks that come to stand in one state before one byte go on as one.
+/// The reading of a part of a text from each of the 32 lexical states, without the bytes to its left: token starts,
+/// ends and an exit for each. Tracks that reach the same state before the same byte go on as one.
 #[derive(Drop)]
 pub struct ChunkMap {
     start: usize,
@@ -63,7 +63,7 @@ impl ChunkMap {
         &self.segments
     }
 
-    /// How many marks the map holds, those of all segments together.
+    /// How many token starts the map holds, those of all segments together.
     pub fn stored(&self) -> u128
         ensures value { result ≡ stored self.now.segments }
     {
@@ -74,7 +74,7 @@ impl ChunkMap {
         stored
     }
 
-    /// What reading the span gives from this state.
+    /// The reading of the span from this state.
     pub fn entry(&self, state: LexState) -> TrackView<'_>
         ensures track { view_track result ≡ track self.now state }
         ensures segments { result.segments ≡ self.now.segments }
@@ -85,7 +85,7 @@ impl ChunkMap {
         }
     }
 
-    /// What reading this part of the text gives from each state.
+    /// The reading of this part of the text from each state.
     pub fn of(alloc: Global, text: &[u8], start: usize, end: usize) -> Result<ChunkMap, AllocError>
         requires { (start ≤ end) × (end ≤ length text.now) }
         ensures start { IfOk result (λ m. m.start ≡ start) }
@@ -97,8 +97,9 @@ impl ChunkMap {
         ChunkMap::up_to(alloc, text, start, end, end)
     }
 
-    /// The map of a beginning of this part of the text, so long that its tracks stand in at most two states behind it, or
-    /// else of all of it. Whatever keeps what the rest comes to can then be read with `scan` from these states alone.
+    /// The map of a beginning of this part of the text, so long that its tracks stand in at most two states after it,
+    /// or else of all of it. Whatever keeps the outcome of the rest can then be read with `scan` from these states
+    /// alone.
     pub fn of_beginning(
         alloc: Global,
         text: &[u8],
@@ -163,8 +164,8 @@ impl ChunkMap {
         })
     }
 
-    /// The map of both spans. Of the right it keeps what the tracks of the left reach: the marks and ends of its other
-    /// segments are let go. Where it is refused both maps come back as they were.
+    /// The map of both spans. Of the right it keeps what the tracks of the left reach: the token starts and ends of its
+    /// other segments are freed. Where it is refused both maps come back as they were.
     pub fn join(self, right: ChunkMap) -> Result<ChunkMap, JoinFault<ChunkMap>>
         requires { self.end ≡ right.start }
         ensures start { IfOk result (λ j. j.start ≡ self.start) }

@@ -1,4 +1,4 @@
-// The marks of a track, or its ends, one after another.
+// The token starts of a track, or its ends, one after another.
 ghost use Rattle.std.specs.Prelude.{◌≡◌, [], ◌++◌, List, refl, option_to_list, IsNone};
 ghost use Rattle.std.specs.Iterator.{YieldsFirst, item_count};
 ghost use Rattle.jx_maps.specs.Follow.{SegmentValue, behind, done};
@@ -11,7 +11,7 @@ use jx_lex::Mark;
 use std::iter::FusedIterator;
 use std::marker::Model;
 
-/// What segments keep lists of, and tracks therefore have lists of: marks or ends.
+/// The items of lists that segments keep, and tracks therefore have: token starts or ends.
 pub trait Kept: Copy {
     ghost in_segment: { SegmentValue → List Self };
 
@@ -54,7 +54,7 @@ impl Kept for usize {
     ghost at_exit = { λ e. refl };
 }
 
-/// An iterator over the marks of a track or over its ends, seen as the list of those that are left.
+/// An iterator over the token starts of a track or over its ends, seen as the list of those that are left.
 #[derive(Drop)]
 pub struct Items<'a, T: Kept> {
     pub(crate) here: &'a [T],
@@ -62,7 +62,7 @@ pub struct Items<'a, T: Kept> {
     pub(crate) next: Link,
 }
 
-/// An iterator over the marks of a track, seen as the list of those that are left.
+/// An iterator over the token starts of a track, seen as the list of those that are left.
 pub type Marks<'a> = Items<'a, Mark>;
 
 /// An iterator over the ends of the tokens of a track, seen as the list of those that are left.

@@ -9,7 +9,7 @@ use jx_lex::{Mark, TokenEnd, TokenSink, Tokens, step};
 use std::alloc::{AllocError, Global};
 use std::marker::Model;
 
-/// A segment that is read on: the scanner puts its marks and ends into vectors, however many come.
+/// A segment that is read on: the scanner puts its token starts and ends into vectors, however many come.
 #[derive(Drop)]
 pub(crate) struct Lane {
     tokens: Tokens,
@@ -25,7 +25,7 @@ impl Model for Lane {
 }
 
 impl Lane {
-    /// A lane with no marks and no ends, which this link follows.
+    /// A lane with no token starts and no ends, which this link follows.
     pub(crate) fn new(alloc: Global, next: Link) -> Lane
         ensures { result ≡ record { marks = []; ends = []; next = next } }
     {
@@ -35,7 +35,7 @@ impl Lane {
         }
     }
 
-    /// What reads on where this segment ends.
+    /// A lane that reads on where this segment ends.
     pub(crate) fn of(segment: Segment) -> Result<Lane, AllocError>
         ensures { IfOk result (λ l. l ≡ segment) }
     {
@@ -46,7 +46,7 @@ impl Lane {
         })
     }
 
-    /// How many marks it has.
+    /// How many token starts it has.
     pub(crate) fn marks(&self) -> usize
         ensures { result ≡ length self.now.marks }
     {
@@ -60,7 +60,7 @@ impl Lane {
         self.tokens.ends().len()
     }
 
-    /// What follows it.
+    /// The link that follows it.
     pub(crate) fn next(&self) -> Link
         ensures { result ≡ self.now.next }
     {
@@ -88,7 +88,7 @@ impl Lane {
         Ok(())
     }
 
-    /// Takes in a stretch of text, where this is the end of a track.
+    /// Takes in bytes of a text, where this is the end of a track.
     pub(crate) fn read_span(
         &mut self,
         text: &[u8],
@@ -105,7 +105,7 @@ impl Lane {
         Ok(())
     }
 
-    /// Keeps only so many of its first marks and ends. This link follows it from now on.
+    /// Keeps only so many of its first token starts and ends. This link follows it from now on.
     pub(crate) fn go_back(&mut self, marks: usize, ends: usize, next: Link)
         ensures { self.new ≡ record { marks = take marks self.old.marks; ends = take ends self.old.ends; next = next } }
     {

@@ -9,7 +9,7 @@ ghost use Rattle.jx_lex.specs.declared.alphabet.state.LexState.{LexState};
 
 use jx_lex::{LexExit, LexState};
 
-/// What follows a segment: another segment, named by how many stand between the two, or an exit.
+/// The successor of a segment: another segment, named by how many are between the two, or an exit.
 #[derive(Clone, Copy, Debug, PartialEq, Eq)]
 pub enum Link {
     Ahead(usize),

@@ -85,7 +85,7 @@ fn prune(segments: &mut [Segment], reached: &mut [bool])
     }
 }
 
-/// Moves the right's segments behind the left's, and links each open exit of the left to the right map's head for that
+/// Moves the right's segments after the left's, and links each open exit of the left to the right map's head for that
 /// state. Segments of the right that nothing reaches are emptied.
 pub(crate) fn append_reached(
     left: &mut Vec<Segment>,

@@ -1,4 +1,4 @@
-// What one or more tracks have in common.
+// Segments: token starts and ends that one or more tracks have in common.
 ghost use Rattle.std.specs.Prelude.{◌≡◌, ◌≤◌, ◌<◌, ◌+◌, ◌++◌, [], ◌^◌, length, OnOk, OnErr};
 ghost use Rattle.jx_maps.specs.inside.Closed.{ClosedTo};
 ghost use Rattle.jx_lex.specs.declared.alphabet.state.LexState.{LexState};
@@ -11,11 +11,11 @@ use smallvec::SmallVec;
 use std::alloc::{AllocError, Global};
 use std::marker::Model;
 
-/// How many marks, and how many ends, a segment holds without memory of its own. Most tracks meet within a few bytes, so
-/// most segments hold no more.
+/// How many token starts, and how many ends, a segment holds without memory of its own. Most tracks meet within a few
+/// bytes, so most segments hold no more.
 const FEW: usize = 4;
 
-/// Marks and ends that each track through this segment has, one after another.
+/// Token starts and ends that each track through this segment has, one after another.
 #[derive(Drop)]
 pub struct Segment {
     pub(crate) marks: SmallVec<Mark, FEW>,
@@ -32,7 +32,7 @@ impl Model for Segment {
 }
 
 impl Segment {
-    /// A segment with no marks and no ends, which this link follows.
+    /// A segment with no token starts and no ends, which this link follows.
     pub(crate) fn new(alloc: Global, next: Link) -> Segment
         ensures { result ≡ record { marks = []; ends = []; next = next } }
     {
@@ -43,7 +43,7 @@ impl Segment {
         }
     }
 
-    /// These marks and ends, which this link follows. Where they are many, the memory that has them is kept.
+    /// These token starts and ends, which this link follows. Where they are many, the memory that has them is kept.
     pub(crate) fn of(marks: Vec<Mark>, ends: Vec<usize>, next: Link) -> Segment
         ensures { result ≡ record { marks = marks.items; ends = ends.items; next = next } }
     {
@@ -61,7 +61,7 @@ impl Segment {
         segment
     }
 
-    /// Its marks, in order.
+    /// Its token starts, in order.
     pub fn marks(&self) -> &[Mark]
         ensures { result.now ≡ self.now.marks }
     {
@@ -75,14 +75,14 @@ impl Segment {
         self.ends.as_slice()
     }
 
-    /// What follows it.
+    /// The link that follows it.
     pub fn next(&self) -> Link
         ensures { result ≡ self.now.next }
     {
         self.next
     }
 
-    /// Lets go of its marks and ends.
+    /// Lets go of its token starts and ends.
     pub(crate) fn empty(&mut self)
         ensures { self.new ≡ record self.old { marks = []; ends = [] } }
     {
@@ -112,7 +112,7 @@ impl Segment {
         Ok(())
     }
 
-    /// Sets what follows it. Its marks and ends stay.
+    /// Sets what follows it. Its token starts and ends stay.
     pub(crate) fn set_next(&mut self, next: Link)
         ensures { self.new ≡ record self.old { next = next } }
     {
@@ -142,7 +142,7 @@ pub(crate) fn link_segments(
     }
 }
 
-/// Moves the right's segments behind the left's, and links each open exit of the left to the right map's head for that
+/// Moves the right's segments after the left's, and links each open exit of the left to the right map's head for that
 /// state.
 pub(crate) fn append_linked(
     left: &mut Vec<Segment>,

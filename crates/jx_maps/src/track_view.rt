@@ -10,8 +10,8 @@ use crate::segment::Segment;
 use jx_lex::LexExit;
 use std::marker::Model;
 
-/// A track: the marks and ends of its segments, one after another, and its exit. A track that met a fault has the marks
-/// and ends before it.
+/// A track: the token starts and ends of its segments, one after another, and its exit. A track that met a fault has
+/// the token starts and ends before it.
 #[derive(Drop)]
 pub struct TrackView<'a> {
     pub(crate) segments: &'a [Segment],
@@ -30,7 +30,7 @@ impl<'a> Model for TrackView<'a> {
     ghost invariant = { λ v. IsIn (length v.segments.now) v.first × AreIn v.segments.now };
 }
 
-/// The segment behind the next `skip` ones, and those that stand behind it.
+/// The segment after the next `skip` ones, and those that follow it.
 pub(crate) fn walk<'a>(rest: &'a [Segment], skip: usize) -> (&'a Segment, &'a [Segment])
     requires { skip < length rest.now }
     ensures segment { result.0.now ≡ slice_index_or rest.now skip result.0.now }
@@ -61,7 +61,7 @@ impl<'a> TrackView<'a> {
         }
     }
 
-    /// The marks of the track, in order.
+    /// The token starts of the track, in order.
     pub fn marks(&self) -> Marks<'a>
         ensures all { result ≡ (view_track self.now).marks }
     {

@@ -9,8 +9,8 @@ use crate::segment::Segment;
 use jx_lex::{LexState, plain_end};
 use std::alloc::AllocError;
 
-// Two tracks are read apart, a stretch at a time. The first stretch has `FIRST_STRETCH` bytes, and each later one is
-// twice as long, up to `LONGEST_STRETCH`. A stretch in which the tracks may have met is read again.
+// Two tracks are read apart, some bytes at a time: first `FIRST_STRETCH`, then each time twice as many, up to
+// `LONGEST_STRETCH`. Bytes in which the tracks may have met are read again.
 const FIRST_STRETCH: usize = 64;
 
 const LONGEST_STRETCH: usize = 4096;
@@ -85,7 +85,7 @@ fn may_lead_alike(first: Link, second: Link) -> bool
     }
 }
 
-/// The end of a stretch of so many bytes, or of all that is left.
+/// The end of so many bytes, or of all that is left.
 fn stretch_end(from: usize, to: usize, stretch: usize) -> usize
     requires { (from < to) × (0 < stretch) }
     ensures { (from < result) × (result ≤ to) }
@@ -97,8 +97,8 @@ fn stretch_end(from: usize, to: usize, stretch: usize) -> usize
     }
 }
 
-/// Reads two segments over a stretch, one after the other. Where both may then lead to the same place, they may have met in
-/// it: both are put back as they were, and the answer is true.
+/// Reads two segments over some bytes, one after the other. Where both may then lead to the same place, they may have
+/// met in these bytes: both are put back as they were, and the answer is true.
 fn may_have_met(
     first: &mut Lane,
     second: &mut Lane,
@@ -122,7 +122,7 @@ fn may_have_met(
     Ok(false)
 }
 
-/// Reads two segments while they stand in different states, a stretch at a time. Gives the end of what was read.
+/// Reads two segments while they are in different states, some bytes at a time. Gives the end of what was read.
 fn read_stretches(
     first: &mut Lane,
     second: &mut Lane,
@@ -151,7 +151,7 @@ fn read_stretches(
     Ok(i)
 }
 
-/// Reads to the end from two segments that have come to stand in one state: both go on in a third.
+/// Reads to the end from two segments that have reached the same state: both go on in a third.
 fn read_met(
     lanes: Vec<Segment>,
     first: Lane,

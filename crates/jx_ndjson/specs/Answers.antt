@@ -1,4 +1,4 @@
--- What a line of JSON Lines comes to (RFC 8259, section 2; of its end RFC 7464, section 2.4).
+-- The verdict on a line of JSON Lines (RFC 8259, section 2; of its end RFC 7464, section 2.4).
 use Rattle.std.specs.Prelude.{◌≡◌, ℕ, Bool, true, false, List}
 use Rattle.std.specs.List.{AllZip, list_all}
 use Rattle.jx_lex.specs.Uneventful.{is_blank}
@@ -12,7 +12,7 @@ use Rattle.jx_ndjson.specs.declared.judged_line.LineVerdict.{LineVerdict}
 use Rattle.jx_ndjson.specs.declared.judged_line.LineVerdict.TheVariants.{Accepted, Refused, MayBeCut, Blank}
 use Rattle.jx_ndjson.specs.Lines.{Line, lines}
 
--- no byte, or blanks alone
+-- no byte, or white space alone
 abbrev pub are_blanks : List ℕ → Bool
 are_blanks bytes = list_all is_blank bytes
 
@@ -20,7 +20,7 @@ are_blanks bytes = list_all is_blank bytes
 abbrev pub IsCut : Line → ℕ → Type 0
 IsCut l limit = (l.is_ended ≡ false) × IsUnclosedText l.part limit
 
--- what a line comes to, by the verdict on its bytes where they stand
+-- the verdict on a line, by that on its bytes where they stand
 abbrev pub IsVerdictOn : Line → ℕ → LineVerdict → Type 0
 IsVerdictOn l limit Blank = are_blanks l.part.bytes ≡ true
 IsVerdictOn l limit (Refused refusal) = (are_blanks l.part.bytes ≡ false) × Judged l.part.at l.part.bytes limit (verdict.Refused refusal)

@@ -1,4 +1,4 @@
--- What a contract sees of a reader of the elements of a text sequence, and what it has answered.
+-- A reader of the elements of a text sequence as contracts see it, and what it has answered.
 use Rattle.std.specs.Prelude.{◌≡◌, ℕ, Bool, List, take}
 use Rattle.std.specs.List.{AllZip}
 use Rattle.jx_run.specs.declared.sequences.element_verdict.JudgedElement.{JudgedElement}

@@ -1,4 +1,4 @@
--- What a contract sees of the run over a part of an input of lines.
+-- The run over a part of an input of lines as contracts see it.
 use Rattle.std.specs.Prelude.{◌≡◌, ℕ, ◌+◌, List, Option, None, Some}
 use Rattle.jx_summary.specs.declared.span.Span.{Span}
 use Rattle.jx_ndjson.specs.declared.judged_line.JudgedLine.{JudgedLine}

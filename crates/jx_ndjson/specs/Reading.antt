@@ -1,4 +1,4 @@
--- What a contract sees of a reader of lines, and what it has answered.
+-- A reader of lines as contracts see it, and what it has answered.
 use Rattle.std.specs.Prelude.{◌≡◌, ℕ, suc, ◌<◌, ◌≤◌, Bool, true, false, List, [], ◌∷◌, ◌++◌, drop, length, take, Option, Some, None}
 use Rattle.std.specs.List.{AllZip}
 use Rattle.jx_run.specs.declared.texts.settings.FrontMark.{FrontMark}
@@ -17,7 +17,7 @@ use Rattle.jx_ndjson.specs.Parts.{parts_by}
 pub record LineReaderValue : Type 0 where
   -- the reader of the line that goes on
   pub reader : ReaderValue
-  -- whether that line has blanks alone so far, and whether its last byte may be followed by more of its value
+  -- whether that line has white space alone so far, and whether its last byte may be followed by more of its value
   pub is_blank : Bool
   pub open_ended : Bool
   -- how many lines have ended
@@ -58,7 +58,7 @@ pub record HasTold (settings : Settings) (input : List ℕ) (told : List JudgedL
   pub reads : HasReadLines settings.depth (mark_length settings.mark input) (drop (mark_length settings.mark input) input) told r
   pub place : IsPlace settings.mark input r.in_front
 
--- memory was refused, and every slice will be
+-- out of memory: every further slice fails
 abbrev pub HasFailed : LineReaderValue → Type 0
 HasFailed r = text_reader.HasFailed r.reader
 

@@ -1,4 +1,4 @@
--- How many lines an input has, and which of them are no texts.
+-- How many lines an input has, and which of them are not valid JSON.
 use Rattle.std.specs.Prelude.{◌≡◌, ℕ, ◌+◌, Bool, true, false, not, List, ◌++◌, filter, if◌then◌else◌, length}
 use Rattle.jx_run.specs.declared.texts.settings.Settings.{Settings}
 use Rattle.jx_ndjson.specs.declared.judged_line.JudgedLine.{JudgedLine}
@@ -36,7 +36,7 @@ count_of is answers = length (filter (λ (j : JudgedLine). is j.verdict) answers
 abbrev pub counts_of : List JudgedLine → LineCounts
 counts_of answers = record { accepted = count_of is_accepted answers; refused = count_of is_refused answers; blank = count_of is_blank_line answers }
 
--- those that are no texts
+-- those that are not valid JSON
 abbrev pub bad_of : List JudgedLine → List JudgedLine
 bad_of answers = filter (λ (j : JudgedLine). not (is_accepted j.verdict)) answers
 
@@ -54,14 +54,14 @@ counted counts verdict =
 
 -- ---- of an input
 
--- these are the lines of the input that are no texts, in order, and so many there are of each kind
+-- these are the lines of the input that are not valid JSON, in order, and so many there are of each kind
 pub record IsTallied (settings : Settings) (input : List ℕ) (bad : List JudgedLine) (counts : LineCounts) : Type 0 where
   pub answers : List JudgedLine
   pub are_answers : AreAnswers settings input answers
   pub bad_are : bad ≡ bad_of answers
   pub counts_are : counts ≡ counts_of answers
 
--- what a contract sees of a tally
+-- A tally as contracts see it
 pub record TallyValue : Type 0 where
   -- the reader of the lines
   pub lines : LineReaderValue

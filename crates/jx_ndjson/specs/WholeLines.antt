@@ -1,4 +1,4 @@
--- Whole lines of an input, judged without what stands before them.
+-- Whole lines of an input, judged without what is before them.
 use Rattle.std.specs.Prelude.{◌≡◌, ℕ, List, [], ◌∷◌, ◌++◌, length}
 use Rattle.std.specs.List.{AllZip}
 use Rattle.jx_run.specs.declared.texts.verdict.Refusal.{Refusal}
@@ -19,7 +19,7 @@ pub record WholeLinesValue : Type 0 where
   -- how many bytes and how many lines there are
   pub len : ℕ
   pub count : ℕ
-  -- those that are no texts; offsets count from the first byte, and numbers from 1
+  -- those that are not valid JSON; offsets count from the first byte, and numbers from 1
   pub bad : List JudgedLine
 
 -- a line feed ends the last line, and these are the answers on all lines, the first one at the offset 0
@@ -31,7 +31,7 @@ pub record AreWhole (limit : ℕ) (bytes : List ℕ) (answers : List JudgedLine)
   pub count_is : v.count ≡ length answers
   pub bad_are : v.bad ≡ bad_of answers
 
--- ---- lines that stand behind others: so many bytes and so many lines further on
+-- ---- lines after others: so many bytes and so many lines further on
 
 abbrev pub moved_refusal : ℕ → Refusal → Refusal
 moved_refusal by (Stopped at) = Stopped (offset_at by at)

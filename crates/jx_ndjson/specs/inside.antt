@@ -1,4 +1,4 @@
--- What the contracts of this crate's own functions cite, and no public one.
+-- Definitions that only the contracts of this crate's own functions cite.
 pub mod ElementSteps
 pub mod Steps
 pub mod Texts

@@ -24,12 +24,12 @@ const RECORD_SEPARATOR: u8 = 0x1E;
 /// How many bytes a byte order mark has.
 const MARK: usize = 3;
 
-/// What a reader of elements did with a slice.
+/// The step of a reader of elements over a slice.
 #[derive(Clone, Copy, Debug)]
 pub struct ElementStep {
     /// How many bytes of the slice it took.
     pub taken: usize,
-    /// The element that a record separator ended behind them. There is none where it has no byte.
+    /// The element that a record separator ended after them. There is none where it has no byte.
     pub element: Option<JudgedElement>,
 }
 
@@ -55,8 +55,8 @@ fn is_passed(mark: FrontMark, first: &[u8], span: Span) -> bool
     }
 }
 
-/// A reader of a text sequence from its start. It answers each element as the record separator behind it is read, and keeps no
-/// byte of it.
+/// A reader of a text sequence from its start. It answers each element as the record separator after it is read, and
+/// keeps no byte of it.
 #[derive(Drop)]
 pub struct ElementReader {
     mark: FrontMark,
@@ -77,7 +77,7 @@ impl Model for ElementReader {
 }
 
 impl ElementReader {
-    /// Before the first byte. The settings' names are of no account: objects may repeat them. Nothing is allocated.
+    /// Before the first byte. The settings' names are ignored: objects may repeat them. Nothing is allocated.
     pub fn new(alloc: Global, settings: &Settings) -> ElementReader
         ensures told { HasToldElements settings.now [] [] result }
         ensures start { result.reader.start + result.reader.count ≡ 0 }
@@ -139,7 +139,7 @@ impl ElementReader {
         ended_there(span, self.reader.verdict(), self.open_ended)
     }
 
-    /// The same without such a mark.
+    /// The same without such a token start.
     fn without_mark(&self, judged: Option<JudgedElement>) -> Option<JudgedElement>
         ensures { (settings : Settings) (input : List ℕ) (told : List JudgedElement) (h : HasToldElements settings input told self.now)
             → AllZip (IsJudgedElement settings.depth) (elements 0 input) (h.judged ++ listed judged) → AreJudgedElements settings input (told ++ listed result) }
@@ -180,8 +180,8 @@ impl ElementReader {
         element
     }
 
-    /// Reads the slice behind all bytes that it has read, up to and with its first record separator. The rest of the slice is fed
-    /// again. Only want of memory is refused.
+    /// Reads the slice after all bytes that it has read, up to and with its first record separator. The rest of the
+    /// slice is fed again. Fails only when out of memory.
     pub fn feed(&mut self, slice: &[u8]) -> Result<ElementStep, AllocError>
         requires { self.old.reader.start + self.old.reader.count + length slice.now < 2 ^ 64 }
         ensures taken { IfOk result (λ step. step.taken ≤ length slice.now) }

@@ -1,4 +1,4 @@
-// What lines of JSON Lines come to.
+// Verdicts on lines of JSON Lines.
 ghost use Rattle.std.specs.Prelude.{◌≡◌, ◌&&◌, not};
 ghost use Rattle.jx_lex.specs.Uneventful.{is_blank};
 ghost use Rattle.jx_ndjson.specs.Answers.{are_blanks};
@@ -8,21 +8,21 @@ ghost use Rattle.jx_ndjson.specs.inside.Steps.{told};
 use jx_lex::Span;
 use jx_run::{Refusal, Verdict};
 
-/// What a line comes to.
+/// The verdict on a line.
 #[derive(Clone, Copy, Debug, PartialEq, Eq)]
 pub enum LineVerdict {
     /// It is a text within the depth.
     Accepted,
-    /// It is no text within the depth. Offsets are in the whole input.
+    /// It is not valid JSON within the depth. Offsets are in the whole input.
     Refused(Refusal),
-    /// No line feed ends it, and its value is a number, `true`, `false` or `null` with nothing behind it. So it may be the
-    /// beginning of a longer one that was cut (RFC 7464, section 2.4).
+    /// No line feed ends it, and its value is a number, `true`, `false` or `null` with nothing after it. So it may be
+    /// the beginning of a longer one that was cut (RFC 7464, section 2.4).
     MayBeCut,
-    /// It has no byte, or blanks alone (RFC 8259, section 2).
+    /// It has no byte, or white space alone (RFC 8259, section 2).
     Blank,
 }
 
-/// A line, and what it comes to.
+/// A line, and the verdict on it.
 #[derive(Clone, Copy, Debug, PartialEq, Eq)]
 pub struct JudgedLine {
     /// Its place among the lines, from 1.
@@ -63,7 +63,7 @@ fn moved_verdict(by: usize, verdict: LineVerdict) -> LineVerdict
 }
 
 impl JudgedLine {
-    /// The same line behind so many lines, which have so many bytes.
+    /// The same line after so many lines, which have so many bytes.
     pub fn behind(self, lines: usize, bytes: usize) -> JudgedLine
         ensures { result ≡ moved_line lines bytes self }
     {
@@ -85,7 +85,7 @@ fn is_blank(byte: u8) -> bool
     byte == b' ' || byte == b'\t' || byte == b'\n' || byte == b'\r'
 }
 
-/// Whether there is no byte but blanks.
+/// Whether there is no byte but white space.
 fn are_blanks(bytes: &[u8]) -> bool
     ensures { result ≡ are_blanks bytes.now }
 {
@@ -97,7 +97,7 @@ fn are_blanks(bytes: &[u8]) -> bool
     true
 }
 
-/// Whether a line has no byte but blanks. `before` is the answer for the bytes before these.
+/// Whether a line has no byte but white space. `before` is the answer for the bytes before these.
 pub(crate) fn blanks_behind(before: bool, bytes: &[u8]) -> bool
     ensures { result ≡ (before && are_blanks bytes.now) }
 {
@@ -111,8 +111,8 @@ pub(crate) fn is_unended(is_open: bool, is_ended: bool) -> bool
     is_open && !is_ended
 }
 
-/// The verdict on a line by that on its bytes, by whether they are blanks alone, and by whether more of its value may follow
-/// its last byte.
+/// The verdict on a line by that on its bytes, by whether they are white space alone, and by whether more of its value
+/// may follow its last byte.
 pub(crate) fn told(is_blank: bool, is_open: bool, verdict: Verdict) -> LineVerdict
     ensures { result ≡ told is_blank is_open verdict }
 {

@@ -1,4 +1,4 @@
-// What holds of lines and of elements, each on a function that does nothing: for every list of bytes and all settings.
+// Laws of lines and of elements, each on a function that does nothing: for every list of bytes and all settings.
 ghost use Rattle.std.specs.Prelude.{◌≡◌, ◌++◌, suc, ℕ, List, Some, filter, length, slice_get};
 ghost use Rattle.std.specs.List.{AllZip};
 ghost use Rattle.jx_run.specs.declared.texts.settings.FrontMark.{FrontMark};
@@ -24,7 +24,7 @@ pub fn answers_are_one()
     verdict_is_one();
 }
 
-/// What a reader has answered are the answers on the lines that a line feed ends, of the bytes that it has read.
+/// The answers of a reader are those on the lines that a line feed ends, of the bytes that it has read.
 pub fn what_is_told_are_ended_lines()
     ensures told { (settings : Settings) (input : List ℕ) (told : List JudgedLine) (r : LineReaderValue) → HasTold settings input told r
         → AllZip (IsAnswer settings.depth) (ended_lines settings.mark input) told }
@@ -46,8 +46,8 @@ pub fn sequences_are_cut_alike()
     ensures alike { (at : ℕ) (bytes : List ℕ) → parts_by is_separator at bytes ≡ parts at bytes }
 {}
 
-/// What a reader of elements has answered are the verdicts on the elements that a record separator ends, of the bytes that it
-/// has read.
+/// The answers of a reader of elements are the verdicts on the elements that a record separator ends, of the bytes that
+/// it has read.
 pub fn told_elements_are_ended()
     ensures told { (settings : Settings) (input : List ℕ) (told : List JudgedElement) (r : ElementReaderValue) → HasToldElements settings input told r
         → AllZip (IsJudgedElement settings.depth) (ended_elements settings.mark input) told }

@@ -23,7 +23,7 @@ fn feeds_at(text: &[u8], i: usize) -> u64
     line_feeds(u8x64::from_slice(&text[i..]))
 }
 
-/// The first line feed, or the end, where none stands before `seen`: it looks at one byte after another.
+/// The first line feed, or the end, where none is before `seen`: it looks at one byte after another.
 fn line_end_behind(text: &[u8], seen: usize) -> usize
     requires within { seen ≤ length text.now }
     requires passed { HoldsNowhere (λ k. is_line_feed (slice_index text.now k)) 0 seen }

@@ -23,7 +23,7 @@ use std::marker::Model;
 /// How many bytes a byte order mark has.
 const MARK: usize = 3;
 
-/// What a reader of lines did with a slice.
+/// The step of a reader of lines over a slice.
 #[derive(Clone, Copy, Debug)]
 pub struct Step {
     /// How many bytes of the slice it took.
@@ -76,7 +76,7 @@ impl Model for LineReader {
 }
 
 impl LineReader {
-    /// Before the first byte. The settings' names are of no account: objects may repeat them. Nothing is allocated.
+    /// Before the first byte. The settings' names are ignored: objects may repeat them. Nothing is allocated.
     pub fn new(alloc: Global, settings: &Settings) -> LineReader
         ensures told { HasTold settings.now [] [] result }
         ensures start { result.reader.start + result.reader.count ≡ 0 }
@@ -213,7 +213,7 @@ impl LineReader {
         }
     }
 
-    /// Takes the next byte of a byte order mark at the input's start. Behind the last one the first line begins.
+    /// Takes the next byte of a byte order mark at the input's start. After the last one the first line begins.
     fn pass_mark(&mut self, byte: u8) -> Result<(), AllocError>
         requires fits { self.old.reader.start + self.old.reader.count + 1 < 2 ^ 64 }
         requires in_front { self.old.in_front ≡ true }
@@ -265,8 +265,8 @@ impl LineReader {
         self.read_line(slice)
     }
 
-    /// Reads the slice behind all bytes that it has read, up to and with its first line feed, or less. The rest of the slice is
-    /// fed again. Only want of memory is refused, and from then on every slice is.
+    /// Reads the slice after all bytes that it has read, up to and with its first line feed, or less. The rest of the
+    /// slice is fed again. Fails only when out of memory, and from then on every slice is.
     pub fn feed(&mut self, slice: &[u8]) -> Result<Step, AllocError>
         requires { self.old.reader.start + self.old.reader.count + length slice.now < 2 ^ 64 }
         ensures taken { IfOk result (λ step. step.taken ≤ length slice.now) }
@@ -304,8 +304,8 @@ impl LineReader {
         !self.in_front && self.reader.start() == self.reader.end()
     }
 
-    /// Passes whole lines that were judged without it, as if it had read their bytes behind all that it has read. It stands
-    /// between two lines.
+    /// Passes whole lines that were judged without it, as if it had read their bytes after all that it has read. It
+    /// stands between two lines.
     pub fn pass(&mut self, lines: &WholeLines)
         requires in_front { self.old.in_front ≡ false }
         requires between { self.old.reader.count ≡ 0 }

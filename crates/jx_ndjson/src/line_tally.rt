@@ -1,4 +1,5 @@
-// Lines that are counted while an input comes slice by slice. Those that are no texts are kept until they are taken.
+// Lines that are counted while an input comes slice by slice. Those that are not valid JSON are kept until they are
+// taken.
 ghost use Rattle.std.specs.Prelude.{◌≡◌, ◌+◌, ◌<◌, ◌≤◌, ◌^◌, ◌++◌, ◌∷◌, ℕ, List, [], if◌then◌else◌, length, take, IfOk, IfSome, OnOk};
 ghost use Rattle.jx_run.specs.declared.texts.settings.FrontMark.TheVariants.{Refused};
 ghost use Rattle.jx_run.specs.declared.texts.settings.Settings.{Settings};
@@ -20,16 +21,16 @@ use std::marker::Model;
 pub struct LineCounts {
     /// Those that are texts.
     pub accepted: usize,
-    /// Those that are none, and those that may be cut.
+    /// Those that are not valid JSON, and those that may be cut.
     pub refused: usize,
-    /// Those that have no byte, or blanks alone.
+    /// Those that have no byte, or white space alone.
     pub blank: usize,
 }
 
-/// What is left to tell where an input ends.
+/// The report that is left where an input ends.
 #[derive(Clone, Copy, Debug)]
 pub struct LineEnd {
-    /// The last line, if no line feed ends it and it is no text.
+    /// The last line, if no line feed ends it and it is not valid JSON.
     pub bad: Option<JudgedLine>,
     /// How many lines the input has.
     pub counts: LineCounts,
@@ -94,7 +95,7 @@ fn counted(counts: LineCounts, verdict: LineVerdict) -> LineCounts
     }
 }
 
-/// The line, if it is no text.
+/// The line, if it is not valid JSON.
 fn bad_line(judged: JudgedLine) -> Option<JudgedLine>
     ensures { listed result ≡ bad_of (judged ∷ []) }
 {
@@ -105,7 +106,7 @@ fn bad_line(judged: JudgedLine) -> Option<JudgedLine>
     }
 }
 
-/// Appends the line, if it is no text.
+/// Appends the line, if it is not valid JSON.
 fn push_bad(waiting: &mut Vec<JudgedLine>, judged: JudgedLine) -> Result<(), AllocError>
     ensures bad { OnOk result (waiting.new.items ≡ waiting.old.items ++ bad_of (judged ∷ [])) }
     ensures most { length waiting.new.items ≤ length waiting.old.items + 1 }
@@ -116,8 +117,8 @@ fn push_bad(waiting: &mut Vec<JudgedLine>, judged: JudgedLine) -> Result<(), All
     Ok(())
 }
 
-/// A reader of lines from an input's start, which counts them. Those that are no texts wait here until they are taken. It keeps
-/// no byte of the input.
+/// A reader of lines from an input's start, which counts them. Those that are not valid JSON wait here until they are
+/// taken. It keeps no byte of the input.
 #[derive(Drop)]
 pub struct LineTally {
     alloc: Global,
@@ -139,7 +140,7 @@ impl Model for LineTally {
 }
 
 impl LineTally {
-    /// One that has taken no byte. The settings' names are of no account: objects may repeat them. Nothing is allocated.
+    /// One that has taken no byte. The settings' names are ignored: objects may repeat them. Nothing is allocated.
     pub fn new(alloc: Global, settings: &Settings) -> LineTally
         ensures taken { HasTaken settings.now [] [] result }
         ensures start { result.lines.reader.start + result.lines.reader.count ≡ 0 }
@@ -163,7 +164,7 @@ impl LineTally {
         self.lines.end()
     }
 
-    /// Counts a line that has ended, and keeps it if it is no text.
+    /// Counts a line that has ended, and keeps it if it is not valid JSON.
     fn tell(&mut self, judged: JudgedLine) -> Result<(), AllocError>
         requires accepted { self.old.counts.accepted + 1 ≤ self.old.lines.ended }
         requires refused { self.old.counts.refused + 1 ≤ self.old.lines.ended }
@@ -218,8 +219,8 @@ impl LineTally {
         }
     }
 
-    /// Takes lines in front of a slice that are texts, and what stands behind them up to and with the next line feed, or less.
-    /// Answers how many bytes those are.
+    /// Takes lines in front of a slice that are texts, and what follows them up to and with the next line feed, or
+    /// less. Answers how many bytes those are.
     fn take_step(&mut self, slice: &[u8]) -> Result<usize, AllocError>
         requires fits { self.old.lines.reader.start + self.old.lines.reader.count + length slice.now < 2 ^ 64 }
         ensures within { IfOk result (λ taken. taken ≤ length slice.now) }
@@ -233,7 +234,8 @@ impl LineTally {
         Ok(passed + taken)
     }
 
-    /// Takes a slice behind all bytes that it has taken. Only want of memory is refused; some of the slice may be taken then.
+    /// Takes a slice after all bytes that it has taken. Fails only when out of memory; some of the slice may be taken
+    /// then.
     pub fn feed(&mut self, slice: &[u8]) -> Result<(), AllocError>
         requires fits { self.old.lines.reader.start + self.old.lines.reader.count + length slice.now < 2 ^ 64 }
         ensures taken { OnOk result ((settings : Settings) (input : List ℕ) (given : List JudgedLine) → HasTaken settings input given self.old
@@ -265,7 +267,7 @@ impl LineTally {
         self.waiting.clear();
     }
 
-    /// What is left to tell if the input ends here, behind the lines that wait.
+    /// The report that is left if the input ends here, after the lines that wait.
     pub fn told_at_end(&self) -> LineEnd
         ensures { (settings : Settings) (input : List ℕ) (given : List JudgedLine) → HasTaken settings input given self.now
             → IsTallied settings input (given ++ self.now.waiting ++ listed result.bad) result.counts }
@@ -282,7 +284,7 @@ impl LineTally {
         }
     }
 
-    /// What it has taken, where a line feed ends the last line; none where bytes stand behind that.
+    /// The lines that it has taken, where a line feed ends the last one; none where bytes follow that.
     pub(crate) fn into_whole(self) -> Option<WholeLines>
         ensures whole { IfSome result (λ whole. (settings : Settings) (input : List ℕ) → settings.mark ≡ Refused → HasTaken settings input [] self
             → (answers : List JudgedLine) × AreWhole settings.depth input answers whole) }

@@ -11,8 +11,9 @@ use jx_summary::{Depth, JoinFault, Span, Summary};
 use std::alloc::{AllocError, Global};
 use std::marker::Model;
 
-/// What reading part of an input of lines gives. Where the part begins behind a line feed, or with the input, and ends with a
-/// line feed, it has the lines that stand there. Any other part tells nothing, and neither does what it is joined with.
+/// The partial result of part of an input of lines. Where the part begins after a line feed, or with the input, and
+/// ends with a line feed, it has the lines of the part. Any other part gives nothing, and neither does what it is
+/// joined with.
 #[derive(Debug, Drop)]
 pub struct LinesRun {
     span: Span,
@@ -30,7 +31,7 @@ impl Model for LinesRun {
     ghost invariant = { λ r. FillSpan r.span r.lines };
 }
 
-/// These lines, and those behind them.
+/// These lines, and those after them.
 fn joined(mut lines: WholeLines, behind: WholeLines) -> Result<WholeLines, JoinFault<WholeLines>>
     requires { lines.len + behind.len < 2 ^ 64 }
     ensures joins { IfOk result (λ all. (limit : ℕ) (xs ys : List ℕ) (before more : List JudgedLine) → AreWhole limit xs before lines → AreWhole limit ys more behind

@@ -1,4 +1,4 @@
-// Whole lines that are texts, one behind another.
+// Whole lines that are texts, one after another.
 ghost use Rattle.std.specs.Prelude.{◌≡◌, ◌<◌, ◌≤◌, List, [], IfOk, IfSome, IsTrue, length, take};
 ghost use Rattle.jx_ndjson.specs.declared.judged_line.JudgedLine.{JudgedLine};
 ghost use Rattle.jx_ndjson.specs.WholeLines.{AreWhole};
@@ -11,7 +11,7 @@ use jx_reduce::{Expect, KnownStack, Whole};
 use jx_run::{read_between, reader_is_grammar};
 use std::alloc::{AllocError, Global};
 
-/// Whether a text ends where a scan of it and its marks came to.
+/// Whether a text ends where a scan of it and its token starts led to.
 #[inline(always)]
 fn is_end(exit: Option<LexExit>, whole: Whole) -> bool
     ensures { IsTrue result → IsEnd exit whole }

@@ -1,4 +1,4 @@
-// Whole lines of an input, judged without what stands before them.
+// Whole lines of an input, judged without what is before them.
 ghost use Rattle.std.specs.Prelude.{◌≡◌, ◌+◌, ◌<◌, ◌≤◌, ◌^◌, ◌++◌, ℕ, List, length, map, vec_len, OnOk, OnErr};
 ghost use Rattle.jx_ndjson.specs.declared.judged_line.JudgedLine.{JudgedLine};
 ghost use Rattle.jx_ndjson.specs.WholeLines.{AreWhole, moved_line};
@@ -27,7 +27,7 @@ impl Model for WholeLines {
     ghost invariant = { λ w. (length w.bad.items ≤ w.count) × (w.count ≤ w.len) };
 }
 
-/// Appends the same lines behind so many lines, which have so many bytes. Where memory is refused nothing is appended.
+/// Appends the same lines after so many lines, which have so many bytes. When out of memory nothing is appended.
 fn append_behind(
     bad: &mut Vec<JudgedLine>,
     more: &[JudgedLine],
@@ -72,14 +72,14 @@ impl WholeLines {
         self.count
     }
 
-    /// Those that are no texts, in their order.
+    /// Those that are not valid JSON, in their order.
     pub fn bad(&self) -> &[JudgedLine]
         ensures { result.now ≡ self.now.bad }
     {
         &self.bad
     }
 
-    /// Takes in the lines behind these. Where memory is refused nothing is taken in.
+    /// Takes in the lines after these. When out of memory nothing is taken in.
     pub(crate) fn take_in(&mut self, behind: &WholeLines) -> Result<(), AllocError>
         requires { self.old.len + behind.now.len < 2 ^ 64 }
         ensures joins { OnOk result ((limit : ℕ) (xs ys : List ℕ) (before more : List JudgedLine) → AreWhole limit xs before self.old → AreWhole limit ys more behind.now

@@ -1,4 +1,4 @@
--- What is written of the elements of a text sequence: a line for each, as soon as it ends.
+-- The output for the elements of a text sequence: a line for each, as soon as it ends.
 use Rattle.std.specs.Prelude.{◌≡◌, ℕ, List, ◌++◌, flat_map}
 use Rattle.std.specs.List.{AllZip}
 use Rattle.jx_run.specs.declared.sequences.element_verdict.JudgedElement.{JudgedElement}
@@ -11,7 +11,7 @@ use Rattle.jx_report.specs.Elements.{exit_past_judged, judged_line}
 use Rattle.jx_words.specs.Verdicts.{shown_output}
 use Rattle.jx_ndjson_report.specs.declared.task.ElementsTask.{ElementsTask}
 
--- S..E VERDICT, behind what stands in front of each line
+-- S..E VERDICT, after what stands in front of each line
 abbrev pub element_line : List ℕ → JudgedElement → List ℕ
 element_line front element = front ++ judged_line element
 
@@ -25,7 +25,7 @@ pub record IsDue (task : ElementsTask) (input output : List ℕ) : Type 0 where
   pub are_answers : AllZip (IsJudgedElement task.settings.depth) (ended_elements task.settings.mark input) answers
   pub written : output ≡ lines_of task answers
 
--- the whole output for an input, and the exit
+-- the whole output for an input, and the status
 pub record ElementsOutput (task : ElementsTask) (input output : List ℕ) (exit : Exit) : Type 0 where
   pub answers : List JudgedElement
   pub are_answers : AreJudgedElements task.settings input answers

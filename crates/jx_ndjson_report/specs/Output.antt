@@ -1,4 +1,4 @@
--- What is written of JSON Lines: a line for each that is no text, and how many there were.
+-- The output for JSON Lines: a line for each that is not valid JSON, and how many there were.
 use Rattle.std.specs.Prelude.{◌≡◌, ◌-◌, ℕ, suc, Bool, true, false, List, [], ◌∷◌, ◌++◌, codes, decimal, filter, flat_map, length}
 use Rattle.std.specs.List.{AllZip}
 use Rattle.jx_ndjson.specs.declared.judged_line.JudgedLine.{JudgedLine}
@@ -26,7 +26,7 @@ is_good (Refused refusal) = false
 is_good MayBeCut = false
 is_good Blank = false
 
--- a blank line that is passed is neither good nor bad
+-- an empty line that is passed is neither good nor bad
 abbrev pub is_bad : BlankRule → LineVerdict → Bool
 is_bad rule Accepted = false
 is_bad rule (Refused refusal) = true
@@ -116,7 +116,7 @@ pub record IsDue (task : LinesTask) (input output : List ℕ) : Type 0 where
   pub are_answers : AllZip (IsAnswer task.settings.depth) (ended_lines task.settings.mark input) answers
   pub written : output ≡ bad_lines task answers
 
--- the whole output for an input, and the exit
+-- the whole output for an input, and the status
 pub record LinesOutput (task : LinesTask) (input output : List ℕ) (exit : Exit) : Type 0 where
   pub answers : List JudgedLine
   pub are_answers : AreAnswers task.settings input answers

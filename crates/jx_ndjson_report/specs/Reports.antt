@@ -1,4 +1,4 @@
--- What a report on lines or elements does to the bytes of its ends, by what is due of an input, and by the whole output for it.
+-- A report on lines or elements from a reader to a writer, by what is due of an input, and by the whole output for it.
 use Rattle.std.specs.Prelude.{◌⊎◌, ℕ, List, ◌++◌, Option}
 use Rattle.std.specs.Io.KnownBytes.{Appends, Consumes}
 use Rattle.jx_ends.specs.declared.exit.Exit.{Exit}

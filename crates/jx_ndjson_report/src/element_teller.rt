@@ -1,4 +1,4 @@
-// Elements of a text sequence that are told while the input comes slice by slice.
+// Elements of a text sequence that are reported while the input comes slice by slice.
 ghost use Rattle.std.specs.Prelude.{◌≡◌, ◌+◌, ◌<◌, ◌≤◌, ◌^◌, ◌++◌, ℕ, List, [], length, take, IfOk, OnOk};
 ghost use Rattle.jx_report.specs.Elements.{exit_past_verdict};
 ghost use Rattle.jx_ndjson_report.specs.inside.ElementTeller.{HasTaken, one_line};
@@ -14,7 +14,7 @@ use jx_run::{ElementVerdict, JudgedElement};
 use std::alloc::{AllocError, Global};
 use std::marker::Model;
 
-/// Appends what is told of an element, if anything is to be written.
+/// Appends the report on an element, if anything is to be written.
 fn add_told(
     ready: &mut Vec<u8>,
     task: &ElementsTask,
@@ -40,7 +40,8 @@ fn exit_past(exit: Exit, verdict: ElementVerdict) -> Exit
     }
 }
 
-/// A reader of elements, and what is told of those that a record separator has ended. What is told waits here to be written.
+/// A reader of elements, and the report on those that a record separator has ended. The report waits here to be
+/// written.
 #[derive(Drop)]
 pub(crate) struct ElementTeller {
     elements: ElementReader,
@@ -69,7 +70,7 @@ impl ElementTeller {
         }
     }
 
-    /// Tells an element that has ended.
+    /// Reports an element that has ended.
     fn tell(&mut self, task: &ElementsTask, element: JudgedElement) -> Result<(), AllocError>
         ensures elements { self.new.elements ≡ self.old.elements }
         ensures ready { OnOk result (self.new.ready ≡ self.old.ready ++ one_line task.now element) }

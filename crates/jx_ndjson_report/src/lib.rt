@@ -1,5 +1,5 @@
-//! Reports on JSON Lines and on text sequences that are told while they are read: each line that is no JSON text, or each element,
-//! as soon as it is known.
+//! Reports on JSON Lines and on text sequences while they are read: each line that is not valid JSON,
+//! or each element, as soon as it is known.
 #![tactic(auto)]
 
 mod element_teller;

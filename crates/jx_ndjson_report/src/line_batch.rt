@@ -31,7 +31,7 @@ impl Model for SharedLines {
     ghost view = { λ s. record { span = s.span; lines = s.lines } };
 }
 
-/// From behind the first line feed of a batch up to behind the last one; none where there is none.
+/// From after the first line feed of a batch up to after the last one; none where there is none.
 fn whole_lines(batch: &[u8]) -> Option<Span>
     ensures ordered { IfSome result (λ s. s.start ≤ s.end) }
     ensures within { IfSome result (λ s. s.end ≤ length batch.now) }
@@ -44,7 +44,7 @@ fn whole_lines(batch: &[u8]) -> Option<Span>
     })
 }
 
-/// Behind the next line feed, from an offset on, or the end of the lines.
+/// After the next line feed, from an offset on, or the end of the lines.
 fn next_line(lines: &[u8], from: usize) -> usize
     requires from { from ≤ length lines.now }
     ensures ordered { from ≤ result }
@@ -56,7 +56,7 @@ fn next_line(lines: &[u8], from: usize) -> usize
     }
 }
 
-/// Behind the first line feeds that stand so many bytes behind the start and behind each other.
+/// After the first line feeds that stand so many bytes after the start and after each other.
 fn line_cuts(alloc: Global, lines: &[u8], piece: usize) -> Result<Vec<usize>, AllocError>
     requires piece { 1 ≤ piece }
 {
@@ -71,8 +71,8 @@ fn line_cuts(alloc: Global, lines: &[u8], piece: usize) -> Result<Vec<usize>, Al
     Ok(cuts)
 }
 
-/// Lines in pieces of so many bytes and what is left of a line then. Where there is no memory to list them, the pieces have so
-/// many bytes.
+/// Lines in chunks of so many bytes and what is left of a line then. Where there is no memory to list them, the chunks
+/// have so many bytes.
 fn line_cutting(alloc: Global, lines: &[u8], piece: usize) -> Result<Cutting, CutFault>
     requires piece { 1 ≤ piece }
     ensures len { IfOk result (λ c. c.len ≡ length lines.now) }
@@ -84,8 +84,8 @@ fn line_cutting(alloc: Global, lines: &[u8], piece: usize) -> Result<Cutting, Cu
     }
 }
 
-/// Judges lines by the crew, whose workers draw the pieces of the cutting and put the lines of each into a book. None where a
-/// piece has no whole lines, or where memory is refused.
+/// Judges lines by the crew, whose workers take the chunks of the division and put the lines of each into an
+/// accumulator. None where a chunk has no whole lines, or when out of memory.
 fn judge_pieces<R: Threads + Wait + Sync, G: Gate + Sync>(
     crew: &Crew<'_, R, G>,
     lines: &[u8],
@@ -103,7 +103,7 @@ fn judge_pieces<R: Threads + Wait + Sync, G: Gate + Sync>(
     }
 }
 
-/// Judges lines by the crew. Its workers draw pieces of so many bytes and what is left of a line then.
+/// Judges lines by the crew. Its workers take chunks of so many bytes and what is left of a line then.
 fn judge_lines<R: Threads + Wait + Sync, G: Gate + Sync>(
     crew: &Crew<'_, R, G>,
     lines: &[u8],

@@ -1,4 +1,4 @@
-// Lines that are told while an input comes slice by slice.
+// Lines that are reported while an input comes slice by slice.
 ghost use Rattle.std.specs.Prelude.{◌≡◌, ◌+◌, ◌<◌, ◌≤◌, ◌^◌, ◌++◌, ℕ, List, [], false, if◌then◌else◌, length, map, take, IfOk, OnOk};
 ghost use Rattle.jx_ndjson.specs.declared.judged_line.JudgedLine.{JudgedLine};
 ghost use Rattle.jx_ndjson.specs.WholeLines.{AreWhole, moved_line};
@@ -26,7 +26,7 @@ fn counted(count: usize, is_one: bool) -> usize
     if is_one { count + 1 } else { count }
 }
 
-/// Appends what is told of a line, if it is bad and is to be written.
+/// Appends the report on a line, if it is bad and is to be written.
 fn add_bad(ready: &mut Vec<u8>, task: &LinesTask, judged: JudgedLine) -> Result<(), AllocError>
     ensures { OnOk result (ready.new.items ≡ ready.old.items ++ bad_line task.now judged) }
 {
@@ -36,7 +36,7 @@ fn add_bad(ready: &mut Vec<u8>, task: &LinesTask, judged: JudgedLine) -> Result<
     Ok(())
 }
 
-/// Appends what is told of lines behind so many others, which have so many bytes, and answers how many of them are bad.
+/// Appends the report on lines after so many others, which have so many bytes, and answers how many of them are bad.
 fn add_all_bad(
     ready: &mut Vec<u8>,
     task: &LinesTask,
@@ -92,7 +92,7 @@ fn add_end(
     Ok(exit_by(bad))
 }
 
-/// A reader of lines, and what is told of those that a line feed has ended. What is told waits here to be written.
+/// A reader of lines, and the report on those that a line feed has ended. The report waits here to be written.
 #[derive(Drop)]
 pub(crate) struct LineTeller {
     alloc: Global,
@@ -128,7 +128,7 @@ impl LineTeller {
         }
     }
 
-    /// Tells a line that has ended, and counts it.
+    /// Reports a line that has ended, and counts it.
     fn tell(&mut self, task: &LinesTask, judged: JudgedLine) -> Result<(), AllocError>
         requires good { self.old.good + 1 ≤ self.old.lines.ended }
         requires bad { self.old.bad + 1 ≤ self.old.lines.ended }
@@ -145,7 +145,8 @@ impl LineTeller {
         Ok(())
     }
 
-    /// Takes whole lines that were judged without it, and tells those that are no texts. It stands between two lines.
+    /// Takes whole lines that were judged without it, and reports those that are not valid JSON. It stands between two
+    /// lines.
     fn take_whole(&mut self, task: &LinesTask, whole: &WholeLines) -> Result<(), AllocError>
         requires in_front { self.old.lines.in_front ≡ false }
         requires between { self.old.lines.reader.count ≡ 0 }
@@ -198,8 +199,8 @@ impl LineTeller {
         }
     }
 
-    /// Takes lines in front of a slice that are texts, and what stands behind them up to and with the next line feed, or less.
-    /// Answers how many bytes those are.
+    /// Takes lines in front of a slice that are texts, and what follows them up to and with the next line feed, or
+    /// less. Answers how many bytes those are.
     fn take_step(&mut self, task: &LinesTask, slice: &[u8]) -> Result<usize, AllocError>
         requires fits { self.old.lines.reader.start + self.old.lines.reader.count + length slice.now < 2 ^ 64 }
         ensures within { IfOk result (λ taken. taken ≤ length slice.now) }
@@ -246,7 +247,7 @@ impl LineTeller {
         }
     }
 
-    /// Takes a slice, some of whose lines were judged: those before and behind them line by line.
+    /// Takes a slice, some of whose lines were judged: those before and after them line by line.
     fn take_shared(
         &mut self,
         task: &LinesTask,

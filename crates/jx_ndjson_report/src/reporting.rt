@@ -1,4 +1,4 @@
-// Lines and elements are told while an input is read.
+// Lines and elements are reported while an input is read.
 ghost use Rattle.std.specs.Prelude.{◌≡◌, ◌≢◌, ◌<◌, ◌≤◌, ◌↔◌, [], true, false, length, IfErr, IfOk, IfSome, IsErrOf, OnOk};
 ghost use Rattle.jx_ndjson_report.specs.Elements.{ElementsOutput, IsDue as IsDueOfElements};
 ghost use Rattle.jx_ndjson_report.specs.Output.{IsDue, LinesOutput};
@@ -16,7 +16,7 @@ use jx_ends::{Exit, ReportFault, Sink, Source, write_whole};
 use std::sync::Wait;
 use std::thread::Threads;
 
-/// How many bytes are read at a time, at most. So few lines wait at once, also where each one is told.
+/// How many bytes are read at a time, at most. So few lines wait at once, also where each one is reported.
 const STEP: usize = 64 * 1024;
 
 /// The same where several workers share them.
@@ -39,8 +39,8 @@ fn shared_by<T: Teller, R: Threads + Wait + Sync, G: Gate + Sync>(
     }
 }
 
-/// Takes a batch behind what was read, and writes the lines that are due then. Memory is refused too where the last byte has
-/// no offset.
+/// Takes a batch after what was read, and writes the lines that are due then. It is also out of memory where the last
+/// byte has no offset.
 fn write_due<T: Teller, W: Sink>(
     writer: &mut W,
     task: &T::Task,
@@ -119,8 +119,8 @@ fn room_for<R, G>(crew: &Crew<'_, R, G>) -> usize
     }
 }
 
-/// Reads to the end of input, and writes what a teller that has taken no byte has to tell of it. At most so many bytes are read
-/// at a time.
+/// Reads to the end of input, and writes the report of a reporter that has taken no byte. At most so many bytes are
+/// read at a time.
 fn report_by<T: Teller, R: Threads + Wait + Sync, S: Source, W: Sink, G: Gate + Sync>(
     crew: &Crew<'_, R, G>,
     reader: &mut S,
@@ -152,16 +152,16 @@ fn report_by<T: Teller, R: Threads + Wait + Sync, S: Source, W: Sink, G: Gate + 
     Ok(exit)
 }
 
-/// Reads JSON Lines to the end of input. For each line that is no JSON text it writes its number, its span and its verdict,
-/// before the next read may wait, and at the end how many lines are texts and how many are none. The exit is good where none is
-/// told.
+/// Reads JSON Lines to the end of input. For each line that is not valid JSON it writes its number, its span and its
+/// verdict, before the next read may wait, and at the end how many lines are valid and how many are not. The status is
+/// good where none is reported.
 ///
-/// Several workers share what one read gives, where that is a MiB or more or the gate is asked: each draws pieces of so many bytes
-/// and what is left of a line then. The gate is asked after each step of a worker and may stop it; the calling thread reads
-/// what is left, the line that goes on, and all that is shorter. For every number of workers, every piece and every gate the
-/// output is the same.
+/// Several workers share what one read gives, where that is a MiB or more or the gate is asked: each takes chunks of so
+/// many bytes and what is left of a line then. The gate is asked after each step of a worker and may stop it; the
+/// calling thread reads what is left, the line that goes on, and all that is shorter. For every number of workers,
+/// every chunk and every gate the output is the same.
 ///
-/// What is written is never taken back. One batch and no line is held; the names of the settings are of no account.
+/// A written line is never taken back. One batch and no line is kept; the names of the settings are ignored.
 pub fn report_lines<R: Threads + Wait + Sync, S: Source, W: Sink, G: Gate + Sync>(
     crew: &Crew<'_, R, G>,
     reader: &mut S,
@@ -195,11 +195,11 @@ pub fn report_lines<R: Threads + Wait + Sync, S: Source, W: Sink, G: Gate + Sync
 }
 
 /// Reads a JSON text sequence (RFC 7464) to the end of input. It writes the line of each element as soon as the record
-/// separator behind it is read, before the next read may wait, and that of the last one at the end. The exit is good where each
-/// is accepted.
+/// separator after it is read, before the next read may wait, and that of the last one at the end. The status is good
+/// where each is accepted.
 ///
-/// The calling thread reads, whoever is in the crew. What is written is never taken back. One batch and no element is held; the
-/// names of the settings are of no account.
+/// The calling thread reads, whoever is in the crew. A written line is never taken back. One batch and no element is
+/// kept; the names of the settings are ignored.
 pub fn report_sequence<R: Threads + Wait + Sync, S: Source, W: Sink, G: Gate + Sync>(
     crew: &Crew<'_, R, G>,
     reader: &mut S,

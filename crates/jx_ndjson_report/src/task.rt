@@ -1,47 +1,47 @@
-// What a report on lines or elements is to do.
+// Tasks of a report on lines or elements.
 use jx_run::Settings;
 
-/// What becomes of a line that has no byte, or blanks alone.
+/// The rule for a line that has no byte, or white space alone.
 #[derive(Clone, Copy, Debug, PartialEq, Eq)]
 pub enum BlankRule {
-    /// It is told as no text.
+    /// It is reported as not valid JSON.
     Refused,
     /// It is passed, and not counted.
     Passed,
 }
 
-/// What is written for a line.
+/// The form of the report on a line.
 #[derive(Clone, Copy, Debug, PartialEq, Eq)]
 pub enum LineForm {
-    /// Its number, its span and its verdict. The counts of all stand behind the last one.
+    /// Its number, its span and its verdict. The counts of all follow the last one.
     Plain,
-    /// As compilers tell of faults: its number, the column of the place and its verdict. Nothing tells how many there are.
+    /// As compilers report faults: its number, the column of the place and its verdict. No counts follow.
     Mark,
-    /// The rest of a JSON object whose beginning stands in front. An object with the counts stands behind the last one.
+    /// The rest of a JSON object whose beginning stands in front. An object with the counts follows the last one.
     Object,
 }
 
-/// What a report on lines is to do.
+/// The task of a report on lines.
 #[derive(Debug, Drop)]
 pub struct LinesTask {
-    /// How each line is read. The names are of no account: objects may repeat them.
+    /// How each line is read. The names are ignored: objects may repeat them.
     pub settings: Settings,
-    /// What becomes of blank lines.
+    /// The rule for empty lines.
     pub blanks: BlankRule,
-    /// What is written for a line.
+    /// The form of the report on a line.
     pub form: LineForm,
-    /// What stands in front of each line that is written.
+    /// The prefix of each line that is written.
     pub front: Vec<u8>,
     /// Whether nothing is written.
     pub is_quiet: bool,
 }
 
-/// What a report on the elements of a text sequence is to do.
+/// The task of a report on the elements of a text sequence.
 #[derive(Debug, Drop)]
 pub struct ElementsTask {
-    /// How each element is read. The names are of no account: objects may repeat them.
+    /// How each element is read. The names are ignored: objects may repeat them.
     pub settings: Settings,
-    /// What stands in front of each line that is written.
+    /// The prefix of each line that is written.
     pub front: Vec<u8>,
     /// Whether nothing is written.
     pub is_quiet: bool,

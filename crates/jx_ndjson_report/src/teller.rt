@@ -6,30 +6,30 @@ use jx_ends::Exit;
 use jx_lex::Depth;
 use std::alloc::AllocError;
 
-/// What takes an input slice by slice, and has ready what is due of it.
+/// A reporter that takes an input slice by slice, and has ready what is due of it.
 pub(crate) trait Teller {
     ghost use Rattle.std.specs.Prelude.{ℕ, List};
     ghost use Rattle.jx_ends.specs.declared.exit.Exit.{Exit};
 
-    /// What it is to do.
+    /// Its task.
     type Task;
 
-    /// What is due of these bytes of an input, from its start.
+    /// The lines that are due of these bytes of an input, from its start.
     ghost is_due: { Self.Task → List ℕ → List ℕ → Type 0 };
 
-    /// The whole output for an input, and the exit.
+    /// The whole output for an input, and the status.
     ghost is_output: { Self.Task → List ℕ → List ℕ → Exit → Type 0 };
 
     /// It has taken these bytes of an input, from its start, and this was written of what is due of them, before what waits.
     ghost has_taken: { Self.Task → List ℕ → List ℕ → Self → Type 0 };
 
-    /// What waits to be written.
+    /// The lines that wait to be written.
     ghost ready: { Self → List ℕ };
 
     /// The offset just past the last byte that it has taken.
     ghost end: { Self → ℕ };
 
-    /// What was written and what waits is what is due.
+    /// The lines that were written and those that wait are the lines that are due.
     fn what_is_taken_is_due()
         ensures due { (task : Self.Task) (bytes given : List ℕ) (teller : Self) → has_taken task bytes given teller → is_due task bytes (given ++ ready teller) };
 
@@ -47,7 +47,8 @@ pub(crate) trait Teller {
     /// Whether lines may be judged before it takes them.
     fn shares() -> bool;
 
-    /// Takes a slice behind all bytes that it has taken, some of whose lines may have been judged. Only want of memory is refused.
+    /// Takes a slice after all bytes that it has taken, some of whose lines may have been judged. Fails only when out
+    /// of memory.
     fn feed(
         &mut self,
         task: &Self::Task,
@@ -58,7 +59,7 @@ pub(crate) trait Teller {
         requires fits { end self.old + length slice.now < 2 ^ 64 }
         ensures taken { OnOk result ((bytes given : List ℕ) → has_taken task.now bytes given self.old → has_taken task.now (bytes ++ slice.now) given self.new) };
 
-    /// What waits to be written.
+    /// The lines that wait to be written.
     fn ready(&self) -> &[u8]
         ensures ready { result.now ≡ ready self.now };
 

@@ -23,7 +23,7 @@ pub(crate) fn is_good(verdict: LineVerdict) -> bool
     }
 }
 
-/// Whether a line is told.
+/// Whether a line is reported.
 pub(crate) fn is_bad(rule: BlankRule, verdict: LineVerdict) -> bool
     ensures { result ≡ is_bad rule verdict }
 {
@@ -38,7 +38,7 @@ pub(crate) fn is_bad(rule: BlankRule, verdict: LineVerdict) -> bool
     }
 }
 
-/// Appends the words for what a line comes to, and a line feed.
+/// Appends the words for the verdict on a line, and a line feed.
 fn add_verdict(out: &mut Vec<u8>, verdict: LineVerdict) -> Result<(), AllocError>
     ensures { OnOk result (out.new.items ≡ out.old.items ++ line (verdict_words verdict)) }
 {
@@ -78,7 +78,7 @@ fn offset_of(judged: JudgedLine) -> usize
     }
 }
 
-/// The byte there, counted from 1 in its line. Memory is refused too where that is no number of a byte.
+/// The byte there, counted from 1 in its line. It is also out of memory where that is no number of a byte.
 fn column_of(judged: JudgedLine) -> Result<usize, AllocError>
     ensures { IfOk result (λ column. column ≡ column_of judged) }
 {
@@ -144,7 +144,7 @@ fn add_object(out: &mut Vec<u8>, front: &[u8], judged: JudgedLine) -> Result<(),
     out.extend_from_slice(b"}\n")
 }
 
-/// Appends what is told of a line in a form.
+/// Appends the report on a line in a form.
 pub(crate) fn add_line(
     out: &mut Vec<u8>,
     form: LineForm,
@@ -219,7 +219,7 @@ fn add_plain(out: &mut Vec<u8>, front: &[u8], judged: JudgedLine) -> Result<(), 
     add_verdict(out, judged.verdict)
 }
 
-/// Appends the words for what an element comes to, and a line feed.
+/// Appends the words for the verdict on an element, and a line feed.
 fn add_element_verdict(out: &mut Vec<u8>, verdict: ElementVerdict) -> Result<(), AllocError>
     ensures { OnOk result (out.new.items ≡ out.old.items ++ line (element_words verdict)) }
 {
@@ -231,7 +231,7 @@ fn add_element_verdict(out: &mut Vec<u8>, verdict: ElementVerdict) -> Result<(),
     }
 }
 
-/// Appends what is told of an element.
+/// Appends the report on an element.
 pub(crate) fn add_element(
     out: &mut Vec<u8>,
     front: &[u8],

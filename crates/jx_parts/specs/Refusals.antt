@@ -1,4 +1,5 @@
--- Why a stream of runs is not taken: the first record that is not the next one of runs of neighbours, and what is wrong with it.
+-- Why a stream of runs is not taken: the first run file that is not the next one of runs of neighbours, and what is
+-- wrong with it.
 use Rattle.std.specs.Prelude.{◌≡◌, ◌≢◌, ◌⊎◌, ℕ, ◌+◌, ◌*◌, ◌<◌, ◌≤◌, List, [], ◌++◌, length, take, Option, None, Some, Ok, Err, unwrap_or}
 use Rattle.std.specs.List.{concat}
 use Rattle.jx_portion.specs.declared.fault.RunFault.{RunFault}
@@ -22,26 +23,27 @@ refusal_of fault.CutShort = CutShort
 refusal_of fault.Damaged = Damaged
 refusal_of (fault.Malformed field) = Malformed
 
--- how many bytes a record has at most
+-- how many bytes a run file has at most
 abbrev pub most : ℕ → ℕ
 most depth = 4096 + 1120 * depth
 
--- these bytes are the head of a record of this depth and this size
+-- these bytes are the head of a run file of this depth and this size
 abbrev pub IsHead : ℕ → ℕ → List ℕ → Type 0
 IsHead depth size head = (rest : List ℕ) × (head_at head ≡ Ok (record { size = size; depth = depth }, rest))
 
--- no head of a record with this depth
+-- no head of a run file with this depth
 pub data IsNoHead (depth : ℕ) (head : List ℕ) (why : RunRefusal) : Type 0 where
   no_head : (it : RunFault) → head_at head ≡ Err it → why ≡ refusal_of it → IsNoHead depth head why
   another_depth : (size other : ℕ) → IsHead other size head → other ≢ depth → why ≡ OtherDepth other → IsNoHead depth head why
   no_size : (size : ℕ) → IsHead depth size head → (size < 24) ⊎ (most depth < size) → why ≡ Malformed → IsNoHead depth head why
 
--- no record of a run
+-- no run file of a run
 pub data IsNoRun (bytes : List ℕ) (why : RunRefusal) : Type 0 where
   unreadable : (it : RunFault) → record_at bytes ≡ Err it → why ≡ refusal_of it → IsNoRun bytes why
   no_parts : (depth : ℕ) (fields : RunFields) → record_at bytes ≡ Ok (depth, fields) → (IsRun depth fields → ⊥) → why ≡ Malformed → IsNoRun bytes why
 
--- bytes do not begin with a record of a run of this depth: its head says none, or they end within it, or it is none
+-- bytes do not begin with a run file of a run of this depth: its head is not one, or they end within it, or the rest is
+-- not one
 pub data IsNoRecord (depth : ℕ) (bytes : List ℕ) (why : RunRefusal) : Type 0 where
   by_head : IsNoHead depth (take 24 bytes) why → IsNoRecord depth bytes why
   by_end : (size : ℕ) → IsHead depth size (take 24 bytes) → length bytes < size → why ≡ CutShort → IsNoRecord depth bytes why
@@ -49,15 +51,16 @@ pub data IsNoRecord (depth : ℕ) (bytes : List ℕ) (why : RunRefusal) : Type 0
 
 -- ---- what is wrong with a stream
 
--- its first runs are those of neighbours, and these bytes are all that stands behind them
+-- its first runs are those of neighbours, and these bytes are all that follows them
 pub record IsBehind (depth : ℕ) (from : Option ℕ) (count number : ℕ) (stream rest : List ℕ) : Type 0 where
   pub records : List (List ℕ)
   pub runs : AreRuns depth from records count
   pub counted : number ≡ length records
   pub whole : stream ≡ concat records ++ rest
 
--- behind runs of neighbours stands no run of this depth, or one that does not begin where those before it end, or one that tells
--- where it begins where those before it do not, or the other way round; then the run without an offset is told of
+-- after runs of neighbours stands no run of this depth, or one that does not begin where those before it end, or one
+-- that says where it begins where those before it do not, or the other way round; then the run without an offset is
+-- named
 pub data IsRefused (depth : ℕ) (stream : List ℕ) (number : ℕ) (why : RunRefusal) : Type 0 where
   alone : (from : Option ℕ) (count : ℕ) (rest : List ℕ) → IsBehind depth from count number stream rest → rest ≢ [] → IsNoRecord depth rest why
       → IsRefused depth stream number why

@@ -1,4 +1,4 @@
--- What work on the parts of a text does to the bytes of its ends.
+-- Work on the parts of a text from a reader to a writer, by their bytes.
 use Rattle.std.specs.Prelude.{◌≡◌, ℕ, ◌+◌, List, length, Option, unwrap_or, Bool}
 use Rattle.std.specs.List.{concat}
 use Rattle.std.specs.Io.KnownBytes.{Appends}
@@ -11,7 +11,8 @@ use Rattle.jx_run.specs.declared.texts.verdict.Verdict.{Verdict}
 use Rattle.jx_run.specs.Verdict.{Judged}
 use Rattle.jx_parts.specs.Records.{AreRecords, HoldsRuns}
 
--- the stream has runs of neighbours, and where they are the records of the parts of a text, that of the text is written
+-- the stream has runs of neighbours, and where they are the run files of the parts of a text, that of the text is
+-- written
 pub record Joins (depth : ℕ) (stream output : List ℕ) : Type 0 where
   pub from : Option ℕ
   pub count : ℕ
@@ -19,7 +20,7 @@ pub record Joins (depth : ℕ) (stream output : List ℕ) : Type 0 where
   pub joined : (start : Option ℕ) (parts records : List (List ℕ)) → stream ≡ concat records → AreRecords depth start parts records
       → IsRecord (concat parts) start depth output
 
--- the verdict on the text from one offset to the other, where the stream has the records of its parts
+-- the verdict on the text from one offset to the other, where the stream has the run files of its parts
 pub record IsOnText (from to depth : ℕ) (start : Option ℕ) (text : List ℕ) (verdict : Verdict) : Type 0 where
   pub begins : unwrap_or start 0 ≡ from
   pub ends : from + length text ≡ to
@@ -45,7 +46,8 @@ pub record WritesInPart (IsFor : List ℕ → List ℕ → Type 0) (unread left 
   pub answer : IsFor text output
   pub wrote : AppendsBeginning written grown output
 
--- the stream has runs of neighbours that cover the text, and the line of the verdict on the text that the records are of is written
+-- the stream has runs of neighbours that cover the text, and the line of the verdict on the text that the run files are
+-- of is written
 pub record SaysWhole (from to depth : ℕ) (quiet : Bool) (exit : Exit) (stream shown : List ℕ) : Type 0 where
   pub start : Option ℕ
   pub count : ℕ

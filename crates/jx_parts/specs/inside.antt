@@ -1,3 +1,3 @@
--- What the contracts of this crate's own functions cite, and no public one.
+-- Definitions that only the contracts of this crate's own functions cite.
 pub mod Reading
 pub mod Writing

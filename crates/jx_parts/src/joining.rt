@@ -12,7 +12,7 @@ use jx_lex::Depth;
 use jx_portion::{Mismatch, Portion};
 use std::alloc::Global;
 
-/// Why a run, which has this number, does not stand behind those before it.
+/// Why a run, which has this number, does not follow those before it.
 #[tactic(auto, using(crate::proofs::Refused::apart_too_long, crate::proofs::Refused::apart_depths))]
 fn fault_by(mismatch: Mismatch, joined: &Portion, next: &Portion, number: usize) -> PartsFault
     requires mismatch { IsMismatch joined.now next.now mismatch }
@@ -70,7 +70,7 @@ fn join_next(joined: Portion, next: Portion, number: usize) -> Result<Portion, P
     }
 }
 
-/// Reads a stream of records to its end, and answers the joined run of their parts. Two runs are held at a time.
+/// Reads a stream of run files to its end, and answers the joined run of their parts. Two runs are kept at a time.
 pub(crate) fn read_joined<S: Source>(
     alloc: Global,
     reader: &mut S,

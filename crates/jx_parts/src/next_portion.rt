@@ -1,4 +1,4 @@
-// What the next record of a stream says.
+// The next run file of a stream.
 ghost use Rattle.std.specs.Prelude.{◌≡◌, ◌≢◌, ◌↔◌, [], ℕ, List, Option, Some, false, true, IfOk, IfErr, IsErrOf};
 ghost use Rattle.jx_portion.specs.Portion.{IsPortion, IsRecord, IsSaidBy};
 ghost use Rattle.jx_ends.specs.declared.report_fault.ReportFault.TheVariants.{Read, Write};
@@ -12,7 +12,7 @@ use jx_lex::Depth;
 use jx_portion::{Portion, decode};
 use std::alloc::Global;
 
-/// The portion that a record says, whose number is told where it is refused.
+/// The partial result that a run file says, whose number is reported where it is refused.
 fn portion_by(alloc: Global, bytes: &[u8], number: usize) -> Result<Portion, PartsFault>
     ensures reads { IfOk result (λ p. (part : List ℕ) (from : Option ℕ) (depth : ℕ) → IsRecord part from depth bytes.now → IsPortion part from depth p) }
     ensures found { IfOk result (IsSaidBy bytes.now) }
@@ -26,8 +26,8 @@ fn portion_by(alloc: Global, bytes: &[u8], number: usize) -> Result<Portion, Par
     }
 }
 
-/// Reads the next record of a stream, which has this number, and answers the portion that it says, or nothing where the stream
-/// ends.
+/// Reads the next run file of a stream, which has this number, and answers the partial result that it says, or nothing
+/// where the stream ends.
 pub(crate) fn next_portion<S: Source>(
     alloc: Global,
     reader: &mut S,

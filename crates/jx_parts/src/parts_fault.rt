@@ -12,7 +12,7 @@ use thiserror::Error;
 /// Why work on the parts of a text gives no answer. Nothing was written, unless writing failed.
 #[derive(Clone, Copy, Debug, PartialEq, Eq, Error)]
 pub enum PartsFault {
-    /// Reading or writing failed, memory was refused, or a number of bytes or of runs is greater than a word.
+    /// Reading or writing failed, it is out of memory, or a number of bytes or of runs is greater than a word.
     #[error("{0}")]
     Report(ReportFault),
     /// The stream of runs is empty.
@@ -72,7 +72,7 @@ pub enum RunRefusal {
     /// Its digest is not that of its bytes.
     #[error("damaged")]
     Damaged,
-    /// Its bytes spell no run.
+    /// Its bytes encode no run.
     #[error("not well formed")]
     Malformed,
     /// It was made with another depth.
@@ -86,7 +86,7 @@ pub enum RunRefusal {
     NoFrom,
 }
 
-/// Why a record is not taken, by what its reader says.
+/// Why a run file is not taken, by what its reader says.
 fn refusal_of(fault: RunFault) -> RunRefusal
     ensures { result ≡ refusal_of fault }
 {
@@ -99,7 +99,7 @@ fn refusal_of(fault: RunFault) -> RunRefusal
     }
 }
 
-/// The fault of the record with this number, by what its reader says.
+/// The fault of the run file with this number, by what its reader says.
 pub(crate) fn fault_of_run(fault: DecodeFault, number: usize) -> PartsFault
     ensures is { result ≡ fault_of_run fault number }
     ensures unread { result ≢ PartsFault.Report Read }

@@ -11,7 +11,7 @@ use std::alloc::{AllocError, Global};
 /// How many bytes of a part are read at a time.
 pub(crate) const BATCH: usize = 256 * 1024;
 
-/// The run of a part with more bytes behind it. Memory is refused too where the last of them has no offset.
+/// The run of a part with more bytes after it. It is also out of memory where the last of them has no offset.
 fn with_batch(alloc: Global, portion: Portion, batch: &[u8]) -> Result<Portion, AllocError>
     ensures below { portion.run.end < 2 ^ 64 }
     ensures grows { IfOk result (λ p. p.run.end ≡ portion.run.end + length batch.now) }

@@ -1,4 +1,4 @@
-// The bytes of the next record of a stream.
+// The bytes of the next run file of a stream.
 ghost use Rattle.std.specs.Prelude.{◌≡◌, ◌≢◌, ◌+◌, ◌<◌, ◌≤◌, ◌↔◌, ◌++◌, [], ℕ, List, Some, length, false, true, vec_len, IfOk, IfErr, IsErrOf};
 ghost use Rattle.std.specs.Io.KnownBytes.{Consumes, IsAtEnd};
 ghost use Rattle.jx_ends.specs.declared.report_fault.ReportFault.TheVariants.{Read, Write};
@@ -32,19 +32,20 @@ fn read_up_to<S: Source>(
     Ok(bytes)
 }
 
-/// How many bytes a record has at most, whatever text its part is of: some of them, and some for each container of the depth.
+/// How many bytes a run file has at most, whatever text its part is of: some of them, and some for each container of
+/// the depth.
 const MOST: usize = 4096;
 
 const MOST_A_CONTAINER: usize = 1120;
 
-/// The greatest size of a record that is read with this depth.
+/// The greatest size of a run file that is read with this depth.
 fn most(depth: Depth) -> usize
     ensures { result ≡ most depth }
 {
     MOST + MOST_A_CONTAINER * depth.containers() as usize
 }
 
-/// The size that the head of the record with this number tells, where it is one that is read with this depth.
+/// The size by the head of the run file with this number, where it is one that is read with this depth.
 #[tactic(auto, using(crate::proofs::Heads::head_told))]
 fn size_by(head: &[u8], depth: Depth, number: usize) -> Result<usize, PartsFault>
     ensures size { IfOk result (λ size. size ≡ told_size head.now) }
@@ -73,7 +74,7 @@ fn size_by(head: &[u8], depth: Depth, number: usize) -> Result<usize, PartsFault
     }
 }
 
-/// Reads a record on behind its head, up to its size.
+/// Reads a run file on after its head, up to its size.
 fn read_behind<S: Source>(
     alloc: Global,
     reader: &mut S,
@@ -101,8 +102,8 @@ fn read_behind<S: Source>(
     Ok(bytes)
 }
 
-/// Reads the next record of a stream, which has this number, or nothing where the stream ends. No more of it is looked at than
-/// its size and its depth.
+/// Reads the next run file of a stream, which has this number, or nothing where the stream ends. No more of it is
+/// looked at than its size and its depth.
 pub(crate) fn next_record<S: Source>(
     alloc: Global,
     reader: &mut S,

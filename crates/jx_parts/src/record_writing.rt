@@ -1,4 +1,4 @@
-// A record, as it is written.
+// A run file, as it is written.
 ghost use Rattle.std.specs.Prelude.{◌≡◌, ◌≢◌, ◌↔◌, false, true, IfErr, IsErrOf, OnOk};
 ghost use Rattle.std.specs.Io.KnownBytes.{Appends};
 ghost use Rattle.jx_ends.specs.Ends.{AppendsBeginning};
@@ -11,7 +11,7 @@ use jx_ends::{Sink, write_whole};
 use jx_portion::Portion;
 use std::alloc::Global;
 
-/// Writes the record of a portion.
+/// Writes the run file of a partial result.
 pub(crate) fn write_record<W: Sink>(
     alloc: Global,
     writer: &mut W,

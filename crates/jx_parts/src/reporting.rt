@@ -1,4 +1,4 @@
-// What is written for a part, for the runs of parts, and for the runs of a whole text.
+// The output for a part, for several run files, and for the run files of a whole text.
 ghost use Rattle.std.specs.Prelude.{◌≡◌, ◌≢◌, ◌↔◌, ℕ, List, Option, Some, true, false, IfOk, IfErr, IsErrOf, OnOk};
 ghost use Rattle.jx_portion.specs.Portion.{IsRecord};
 ghost use Rattle.jx_ends.specs.declared.report_fault.ReportFault.TheVariants.{Read, Write};
@@ -15,8 +15,8 @@ use jx_lex::Depth;
 use jx_words::write_verdict;
 use std::alloc::Global;
 
-/// Reads a part of a text to its end, batch by batch, and then writes its run. Where `from` is told, the part begins at that
-/// offset of the text. Memory is refused too where its last byte has no offset.
+/// Reads a part of a text to its end, batch by batch, and then writes its run. Where `from` is given, the part
+/// begins at that offset of the text. It is also out of memory where its last byte has no offset.
 pub fn report_part<S: Source, W: Sink>(
     alloc: Global,
     reader: &mut S,
@@ -26,7 +26,7 @@ pub fn report_part<S: Source, W: Sink>(
 ) -> Result<(), PartsFault>
     requires reader { S.has_failed reader.old ≡ false }
     requires writer { W.has_failed writer.old ≡ false }
-    // All that the reader had was read, and its record was written.
+    // All that the reader had was read, and its run file was written.
     ensures ok { OnOk result (Writes (λ text output. IsRecord text from depth output) (S.remaining reader.old) (S.remaining reader.new)
         (W.contents writer.old) (W.contents writer.new)) }
     ensures read { IsErrOf result (PartsFault.Report Read) ↔ (S.has_failed reader.new ≡ true) }
@@ -35,7 +35,7 @@ pub fn report_part<S: Source, W: Sink>(
     ensures only { IfErr result IsReport }
     // After any fault but a write fault the writer is as it was.
     ensures unwritten { IfErr result (λ fault. fault ≢ PartsFault.Report Write → writer.new ≡ writer.old) }
-    // After a write fault all was read, and a beginning of its record was written.
+    // After a write fault all was read, and a beginning of its run file was written.
     ensures beginning { IsErrOf result (PartsFault.Report Write) → WritesInPart (λ text output. IsRecord text from depth output) (S.remaining reader.old)
         (S.remaining reader.new) (W.contents writer.old) (W.contents writer.new) }
 {
@@ -43,8 +43,8 @@ pub fn report_part<S: Source, W: Sink>(
     write_record(alloc, writer, &portion)
 }
 
-/// Reads runs to the end of input, which stand one behind another in the order of their parts, and then writes the run of all
-/// these parts. Each has to be made with this depth, and to begin where the one before it ends, if they tell.
+/// Reads runs to the end of input, one after another in the order of their parts, and then writes the run of all these
+/// parts. Each has to be made with this depth, and to begin where the one before it ends, if they say so.
 pub fn report_joined<S: Source, W: Sink>(
     alloc: Global,
     reader: &mut S,
@@ -53,14 +53,14 @@ pub fn report_joined<S: Source, W: Sink>(
 ) -> Result<(), PartsFault>
     requires reader { S.has_failed reader.old ≡ false }
     requires writer { W.has_failed writer.old ≡ false }
-    // All that the reader had was read; where it was records of parts, that of the parts joined was written.
+    // All that the reader had was read; where it was run files of parts, that of the parts joined was written.
     ensures ok { OnOk result (Writes (Joins depth) (S.remaining reader.old) (S.remaining reader.new)
         (W.contents writer.old) (W.contents writer.new)) }
     ensures read { IsErrOf result (PartsFault.Report Read) ↔ (S.has_failed reader.new ≡ true) }
     ensures write { IsErrOf result (PartsFault.Report Write) ↔ (W.has_failed writer.new ≡ true) }
     // Where the bytes that the reader had are known, which fault they get.
     ensures refused { (stream : List ℕ) → S.remaining reader.old ≡ Some stream → IfErr result (IsJoinFault depth stream) }
-    // Runs of neighbours get none: then an end failed, or memory was refused.
+    // Runs of neighbours get none: then an end failed, or it was out of memory.
     ensures taken { (stream : List ℕ) (from : Option ℕ) (count : ℕ) → S.remaining reader.old ≡ Some stream → HoldsRuns depth from count stream → IfErr result IsReport }
     // After any other fault the writer is as it was.
     ensures unwritten { IfErr result (λ fault. fault ≢ PartsFault.Report Write → writer.new ≡ writer.old) }
@@ -86,7 +86,7 @@ pub fn report_whole<S: Source, W: Sink>(
 ) -> Result<Exit, PartsFault>
     requires reader { S.has_failed reader.old ≡ false }
     requires writer { W.has_failed writer.old ≡ false }
-    // All that the reader had was read; where it was records of parts, the verdict on the parts joined was written.
+    // All that the reader had was read; where it was run files of parts, the verdict on the parts joined was written.
     ensures ok { IfOk result (λ exit. Writes (SaysWhole from to depth quiet exit) (S.remaining reader.old) (S.remaining reader.new)
         (W.contents writer.old) (W.contents writer.new)) }
     ensures read { IsErrOf result (PartsFault.Report Read) ↔ (S.has_failed reader.new ≡ true) }

@@ -1,4 +1,4 @@
--- The kinds of things that one byte tells apart, in the order of their numbers.
+-- The kinds of things that one byte distinguishes, in the order of their numbers.
 use Rattle.std.specs.Prelude.{ℕ, List, [], ◌∷◌, Bool, true, false}
 use Rattle.jx_lex.specs.declared.alphabet.mark.MarkKind.{MarkKind}
 use Rattle.jx_lex.specs.declared.alphabet.mark.MarkKind.TheVariants as kind

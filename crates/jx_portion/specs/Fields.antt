@@ -1,4 +1,4 @@
--- What a record says of a run, without where it lies in memory.
+-- The fields of a run in a run file, without where it lies in memory.
 use Rattle.std.specs.Prelude.{ℕ, List, map, Option, Some, None}
 use Rattle.jx_lex.specs.declared.alphabet.mark.Mark.{Mark}
 use Rattle.jx_reduce.specs.declared.table.holder.Holder.{Holder}

@@ -1,4 +1,4 @@
--- Portions of a text, and the records of their bytes.
+-- Partial results of a text, and the run files of their bytes.
 use Rattle.std.specs.Prelude.{◌≡◌, ◌≢◌, ℕ, ◌+◌, ◌≤◌, ◌<◌, ◌^◌, List, [], ◌∷◌, ◌++◌, Option, None, Some, Result, Ok, Err, is_some, length, map, reverse, unwrap_or}
 use Rattle.std.specs.List.{AllByRecursion}
 use Rattle.jx_reduce.specs.Structure.{StructureValue}
@@ -17,7 +17,7 @@ use Rattle.jx_reduce.specs.Parts.{string_head}
 use Rattle.jx_reduce.specs.Sound.{IsSound}
 use Rattle.jx_lex.specs.declared.alphabet.mark.Mark.{Mark}
 
--- where the first byte stands in the text, where that was told, and what reading the bytes comes to
+-- where the first byte stands in the text, where that was given, and the outcome of the bytes
 pub record PortionValue : Type 0 where
   pub from : Option ℕ
   pub run : OutcomeRunValue
@@ -25,17 +25,17 @@ pub record PortionValue : Type 0 where
 abbrev pub start_of : PortionValue → ℕ
 start_of p = unwrap_or p.from 0
 
--- the offset in the text just behind its bytes
+-- the offset in the text just after its bytes
 abbrev pub end_of : PortionValue → ℕ
 end_of p = start_of p + p.run.end
 
--- it is the portion of these bytes, told to stand at this offset or not, read with this depth
+-- it is the partial result of these bytes, told to stand at this offset or not, read with this depth
 pub record IsPortion (bytes : List ℕ) (from : Option ℕ) (depth : ℕ) (p : PortionValue) : Type 0 where
   pub from_is : p.from ≡ from
   pub depth_is : p.run.depth ≡ depth
   pub run_is : IsOutcomeRun bytes p.run
 
--- both tell where they stand, and the right begins where the left ends; or neither does
+-- both say where they begin, and the right begins where the left ends; or neither does
 abbrev pub Adjoin : PortionValue → PortionValue → Option ℕ → Option ℕ → Type 0
 Adjoin left right None None = Unit {0}
 Adjoin left right (Some f) (Some g) = g ≡ f + left.run.end
@@ -48,7 +48,7 @@ pub record Meets (left right : PortionValue) : Type 0 where
   pub places : Adjoin left right left.from right.from
   pub short : end_of left + right.run.end < 2 ^ 64
 
--- the first of these that keeps two portions from being joined
+-- the first of these that keeps two partial results from being joined
 abbrev pub IsMismatch : PortionValue → PortionValue → Mismatch → Type 0
 IsMismatch left right Depths = left.run.depth ≢ right.run.depth
 IsMismatch left right Froms = (left.run.depth ≡ right.run.depth) × (is_some left.from ≢ is_some right.from)
@@ -57,7 +57,7 @@ IsMismatch left right Place =
 IsMismatch left right TooLong =
     (left.run.depth ≡ right.run.depth) × Adjoin left right left.from right.from × (2 ^ 64 ≤ end_of left + right.run.end)
 
--- ---- the portion that a record says
+-- ---- the partial result that a run file says
 
 abbrev pub fields_head : Option RestFields → List Mark
 fields_head None = []
@@ -83,7 +83,7 @@ pub record IsRun (d : ℕ) (r : RunFields) : Type 0 where
   pub run : IsWellFormed (portion_in d r).run
   pub place : end_of (portion_in d r) < 2 ^ 64
 
--- the bytes spell the run of this depth that has these parts
+-- the bytes encode the run of this depth that has these parts
 pub record IsSpelt (d : ℕ) (r : RunFields) (bytes : List ℕ) : Type 0 where
   pub run_is : IsRun d r
   pub fits : RunFits r
@@ -91,11 +91,11 @@ pub record IsSpelt (d : ℕ) (r : RunFields) (bytes : List ℕ) : Type 0 where
   pub size : 56 + length (run r) < 2 ^ 64
   pub spelt : bytes ≡ spelling d r
 
--- the bytes are a record, and this is the portion that it says
+-- the bytes are a run file, and this is the partial result that it says
 abbrev pub IsSaidBy : List ℕ → PortionValue → Type 0
 IsSaidBy bytes p = (d : ℕ) × (r : RunFields) × (p ≡ portion_in d r) × IsSpelt d r bytes
 
--- a record of the portion of these bytes
+-- a run file of the partial result of these bytes
 pub record IsRecord (bytes : List ℕ) (from : Option ℕ) (depth : ℕ) (r : List ℕ) : Type 0 where
   pub fields : RunFields
   pub is : IsPortion bytes from depth (portion_in depth fields)
@@ -103,7 +103,7 @@ pub record IsRecord (bytes : List ℕ) (from : Option ℕ) (depth : ℕ) (r : Li
 
 -- ---- what reading a record answers
 
--- refused for want of memory, or since no run has the parts
+-- refused when out of memory, or since no run has the parts
 abbrev pub OnlyParts : DecodeFault → Type 0 → Type 0
 OnlyParts refused.Memory P = Unit {0}
 OnlyParts (refused.Fault f) P = (f ≡ Malformed field.Parts) × (P → ⊥)

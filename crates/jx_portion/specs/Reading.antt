@@ -1,4 +1,4 @@
--- Reading a record from left to right, with the first fault that is met.
+-- Reading a run file from left to right, with the first fault that is met.
 use Rattle.std.specs.Prelude.{◌≡◌, ℕ, zero, suc, List, [], ◌∷◌, length, take, drop, Bool, ◌/◌, ◌-◌, ◌||◌, Option, Some, None, Result, Ok, Err, bytes_eq, nat_lt, ◌==◌, if◌then◌else◌, slice_get}
 use Rattle.std.specs.Int.{w64, from_be_bytes}
 use Rattle.jx_portion.specs.declared.fault.DecodeFault.{DecodeFault}
@@ -38,7 +38,7 @@ abbrev pub Gives : {X Y : Type 0} → (X → Y) → Result X DecodeFault → Res
 Gives view (Ok x) reading = reading ≡ Ok (view x)
 Gives view (Err e) reading = Fails e reading
 
--- a field is what it says, and the bytes behind it
+-- a field is what it says, and the bytes after it
 unfoldable pub number_at : List ℕ → Result (ℕ × List ℕ) RunFault
 number_at bytes = if nat_lt (length bytes) 8 then Err CutShort else Ok (from_be_bytes w64 (take 8 bytes), drop 8 bytes)
 
@@ -54,7 +54,7 @@ choice_at all fault (b ∷ rest) = chosen fault rest (slice_get all b)
 abbrev pub flag_at : List ℕ → Result (Bool × List ℕ) RunFault
 flag_at bytes = choice_at flags field.Flag bytes
 
--- behind a flag
+-- after a flag
 unfoldable pub optional_at : {A : Type 0} → (List ℕ → Result (A × List ℕ) RunFault) → List ℕ → Result (Option A × List ℕ) RunFault
 optional_at reading bytes = do
   flag ← flag_at bytes
@@ -160,7 +160,7 @@ run_at bytes = do
 
 -- ---- a record as a whole
 
--- the bytes behind the first eight
+-- the bytes after the first eight
 unfoldable pub tag_at : List ℕ → Result (List ℕ) RunFault
 tag_at bytes = if nat_lt (length bytes) 8 then Err NotARun else (do
   first ← number_at bytes
@@ -178,7 +178,7 @@ head_at bytes = do
   depth ← depth_at size.1
   Ok (record { size = size.0; depth = depth.0 }, depth.1)
 
--- what stands up to the digest, which is that of all bytes of the record before it
+-- what stands up to the digest, which is that of all bytes of the run file before it
 unfoldable pub sealed_at : List ℕ → List ℕ → Result (List ℕ) RunFault
 sealed_at bytes rest =
     if nat_lt (length bytes) 32 || nat_lt (length rest) 32 then Err (Malformed field.Size)
@@ -192,11 +192,11 @@ body_at bytes = do
     body ← sealed_at bytes head.1
     Ok (head.0.depth, body))
 
--- their head and their digest are those of a record
+-- their head and their digest are those of a run file
 abbrev pub IsSealed : List ℕ → Type 0
 IsSealed bytes = (x : ℕ × List ℕ) × (body_at bytes ≡ Ok x)
 
--- what a record says
+-- what a run file says
 unfoldable pub record_at : List ℕ → Result (ℕ × RunFields) RunFault
 record_at bytes = do
   body ← body_at bytes

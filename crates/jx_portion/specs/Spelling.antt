@@ -1,4 +1,4 @@
--- What a record says, and its one spelling.
+-- The contents of a run file, and their one encoding.
 use Rattle.std.specs.Prelude.{ℕ, ◌+◌, ◌<◌, ◌^◌, List, [], ◌∷◌, ◌++◌, length, Option, Some, None}
 use Rattle.std.specs.List.{flat_map, AllByRecursion}
 use Rattle.std.specs.Int.{w64, to_be_bytes}
@@ -81,7 +81,7 @@ sealed bytes = bytes ++ sha256 bytes
 abbrev pub spelling : ℕ → RunFields → List ℕ
 spelling depth r = sealed (head (56 + length (run r)) depth ++ run r)
 
--- ---- what is not too large to be spelt
+-- ---- what is not too large to be encoded
 
 abbrev pub IfThere : {A : Type 0} → (A → Type 0) → Option A → Type 0
 IfThere P None = Unit {0}
@@ -110,7 +110,7 @@ ExitFits (Fault at) = IsNumber at
 abbrev pub TransitionFits : Transition → Type 0
 TransitionFits w = ExitFits w.exit × IsNumber w.structure
 
--- what one byte tells
+-- a choice that one byte encodes
 abbrev pub Any : {A : Type 0} → A → Type 0
 Any _ = Unit {0}
 

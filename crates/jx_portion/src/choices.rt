@@ -1,4 +1,4 @@
-// Things that one byte tells apart.
+// Things that one byte distinguishes.
 ghost use Rattle.std.specs.Prelude.{◌∷◌, []};
 ghost use Rattle.jx_lex.specs.Ordinal.{all_states, ordinal};
 ghost use Rattle.jx_portion.specs.Choices.{entries, holders, holder_number, kinds, kind_number};
@@ -12,7 +12,7 @@ use jx_lex::{LexState, MarkKind};
 use jx_reduce::{Entry, Holder};
 use std::alloc::AllocError;
 
-/// The kinds of marks, in the order of their numbers.
+/// The kinds of token starts, in the order of their numbers.
 const KINDS: [MarkKind; 11] = [
     MarkKind::OpenArray,
     MarkKind::CloseArray,

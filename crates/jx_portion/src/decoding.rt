@@ -1,4 +1,4 @@
-// Portions from their records.
+// Partial results from their run files.
 ghost use Rattle.std.specs.Prelude.{◌≡◌, ℕ, List, Option, map, IfOk, IfErr, Ok};
 ghost use Rattle.std.specs.List.{AllByRecursion};
 ghost use Rattle.jx_reduce.specs.Parts.{structure_of_parts};
@@ -34,7 +34,7 @@ fn structures_of(
     Ok(structures)
 }
 
-/// The portion that has these parts, if any has.
+/// The partial result that has these parts, if any has.
 fn portion_of(alloc: Global, depth: Depth, parts: RunParts) -> Result<Portion, DecodeFault>
     ensures made { IfOk result (λ p. (p ≡ portion_in depth (run_fields parts)) × IsRun depth (run_fields parts)) }
     ensures fault { IfErr result (λ e. OnlyParts e (IsRun depth (run_fields parts))) }
@@ -55,7 +55,7 @@ fn portion_of(alloc: Global, depth: Depth, parts: RunParts) -> Result<Portion, D
     }
 }
 
-/// What the bytes say, where a run has it.
+/// The partial result that the bytes encode, where a run has it.
 fn answer(alloc: Global, bytes: &[u8]) -> Result<Portion, DecodeFault>
     ensures exact { IsAnswer result (record_at bytes.now) }
     ensures sealed { IfErr result (λ fault. fault ≡ DecodeFault.Memory → IsSealed bytes.now) }
@@ -64,15 +64,16 @@ fn answer(alloc: Global, bytes: &[u8]) -> Result<Portion, DecodeFault>
     portion_of(alloc, depth, parts)
 }
 
-/// The portion whose record these bytes are, all of them. Nothing is reserved by a size or a count that they name.
+/// The partial result whose run file these bytes are, all of them. Nothing is reserved by a size or a count that they
+/// name.
 pub fn decode(alloc: Global, bytes: &[u8]) -> Result<Portion, DecodeFault>
     // Which fault it is: the first one from left to right, and last that no run has these parts.
     ensures exact { IsAnswer result (record_at bytes.now) }
-    // Memory is asked for only where the head and the digest are those of a record.
+    // Memory is asked for only where the head and the digest are those of a run file.
     ensures sealed { IfErr result (λ fault. fault ≡ DecodeFault.Memory → IsSealed bytes.now) }
     // Nothing else is read.
     ensures found { IfOk result (IsSaidBy bytes.now) }
-    // What is spelt so is read, unless memory runs out.
+    // What is written so is read, unless memory runs out.
     ensures only { (d : ℕ) (r : RunFields) → IsSpelt d r bytes.now → IsAnswer result (Ok (d, r)) }
     // What was encoded is the summary of the same bytes again.
     ensures reads { (xs : List ℕ) (f : Option ℕ) (d : ℕ) → IsRecord xs f d bytes.now → IfOk result (IsPortion xs f d) }

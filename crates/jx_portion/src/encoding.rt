@@ -1,4 +1,4 @@
-// Portions as records.
+// Partial results as run files.
 ghost use Rattle.std.specs.Prelude.{◌≡◌, ◌+◌, ◌≤◌, ◌<◌, ◌^◌, ◌++◌, ℕ, List, Option, length, IfOk, OnOk};
 ghost use Rattle.std.specs.List.{flat_map, AllByRecursion};
 ghost use Rattle.jx_run.specs.OutcomeRun.{IsWellFormed};
@@ -17,7 +17,7 @@ use jx_summary::Summary;
 use sha2::{Digest, Sha256};
 use std::alloc::{AllocError, Global};
 
-/// Puts a structure behind these bytes.
+/// Puts a structure after these bytes.
 fn put_one(structure: &Structure, out: &mut Vec<u8>) -> Result<(), AllocError>
     ensures said { OnOk result (IsSaid structure.now) }
     ensures put { OnOk result (out.new.items ≡ out.old.items ++ structure_said structure.now) }
@@ -26,7 +26,7 @@ fn put_one(structure: &Structure, out: &mut Vec<u8>) -> Result<(), AllocError>
     Ok(())
 }
 
-/// Puts how many structures there are, and each of them, behind these bytes.
+/// Puts how many structures there are, and each of them, after these bytes.
 fn put_structures(structures: &[Structure], out: &mut Vec<u8>) -> Result<(), AllocError>
     ensures few { length structures.now < 2 ^ 64 }
     ensures said { OnOk result (AllByRecursion IsSaid structures.now) }
@@ -54,7 +54,7 @@ fn body_of(alloc: Global, from: Option<usize>, whole: &OutcomeRun) -> Result<Vec
     Ok(body)
 }
 
-/// The record of this depth that has these bytes between its head and its digest.
+/// The run file of this depth that has these bytes between its head and its digest.
 fn sealed_of(alloc: Global, depth: Depth, body: &[u8]) -> Result<Vec<u8>, AllocError>
     ensures low { depth ≤ 65535 }
     ensures size { 56 + length body.now < 2 ^ 64 }
@@ -71,7 +71,7 @@ fn sealed_of(alloc: Global, depth: Depth, body: &[u8]) -> Result<Vec<u8>, AllocE
 }
 
 impl Portion {
-    /// Its record. It fails only for want of memory.
+    /// Its run file. It fails only when out of memory.
     pub fn encode(&self, alloc: Global) -> Result<Vec<u8>, AllocError>
         ensures { IfOk result (λ r. (bytes : List ℕ) (f : Option ℕ) (d : ℕ) → IsPortion bytes f d self.now → IsRecord bytes f d r.items) }
     {

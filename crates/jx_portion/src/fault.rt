@@ -1,37 +1,37 @@
-//! Why bytes are no record.
+//! Why bytes are no run file.
 ghost use Rattle.std.specs.Prelude.{◌≡◌};
 ghost use Rattle.jx_portion.specs.declared.fault.DecodeFault.TheVariants.{Memory};
 
 use std::alloc::{AllocError, AllocFailed};
 use thiserror::Error;
 
-/// What the fault of a record is about.
+/// The field of a run file that a fault is about.
 #[derive(Clone, Copy, Debug, PartialEq, Eq)]
 pub enum Field {
     /// The depth is above 65,535.
     Depth,
-    /// The size is none that a record of this depth has.
+    /// No run file of this depth has this size.
     Size,
     /// A flag is neither 0 nor 1.
     Flag,
     /// No lexical state has this number.
     State,
-    /// No kind of marks has this number.
+    /// No kind of token starts has this number.
     Mark,
     /// No kind of containers has this number.
     Container,
     /// No expectation has this number.
     Entry,
-    /// Bytes stand behind the last field.
+    /// Bytes follow the last field.
     Rest,
     /// No run has these parts: too many structures, or fields of which each is well formed.
     Parts,
 }
 
-/// What is wrong with the bytes of a record: the first fault from left to right.
+/// The fault of the bytes of a run file: the first one from left to right.
 #[derive(Clone, Copy, Debug, PartialEq, Eq)]
 pub enum RunFault {
-    /// They don't begin as records do.
+    /// They don't begin as run files do.
     NotARun,
     /// They are of another version of the format.
     OtherVersion,
@@ -39,11 +39,11 @@ pub enum RunFault {
     CutShort,
     /// Their digest is that of other bytes.
     Damaged,
-    /// A field is none that a record has.
+    /// No run file has this field.
     Malformed(Field),
 }
 
-/// Why a record could not be read.
+/// Why a run file could not be read.
 #[derive(Debug, Drop, Error)]
 pub enum DecodeFault {
     #[error("out of memory")]

@@ -1,4 +1,4 @@
-// The structures of a run in a record.
+// The structures of a run in a run file.
 ghost use Rattle.std.specs.Prelude.{◌≡◌, ◌++◌, OnOk};
 ghost use Rattle.jx_portion.specs.Fields.{form_fields, form_seen, rest_fields, rest_seen, structure_fields, structure_seen};
 ghost use Rattle.jx_portion.specs.Reading.{form_at, rest_at, structure_at, Gives};
@@ -11,7 +11,7 @@ use jx_lex::Mark;
 use jx_reduce::{FormParts, FormRef, Level, RestParts, RestRef, StructureParts, StructureRef};
 use std::alloc::{AllocError, Global};
 
-/// Puts a form behind these bytes.
+/// Puts a form after these bytes.
 pub(crate) fn put_form(parts: FormRef<'_>, out: &mut Vec<u8>) -> Result<(), AllocError>
     ensures fits { OnOk result (FormFits (form_seen parts.entry)) }
     ensures put { OnOk result (out.new.items ≡ out.old.items ++ form (form_seen parts.entry)) }
@@ -31,7 +31,7 @@ fn put_rest(parts: RestRef<'_>, out: &mut Vec<u8>) -> Result<(), AllocError>
     put_form(parts.tail, out)
 }
 
-/// Puts a structure behind these bytes.
+/// Puts a structure after these bytes.
 pub(crate) fn put_structure(parts: StructureRef<'_>, out: &mut Vec<u8>) -> Result<(), AllocError>
     ensures fits { OnOk result (StructureFits (structure_seen parts.entry)) }
     ensures put { OnOk result (out.new.items ≡ out.old.items ++ structure (structure_seen parts.entry)) }

@@ -1,4 +1,4 @@
-//! What reading a part of a text comes to, as bytes: records that other machines read and join.
+//! Partial results of parts of a text as bytes: run files that other machines read and join.
 #![tactic(auto)]
 
 mod choices;

@@ -1,4 +1,4 @@
-// Numbers in a record.
+// Numbers in a run file.
 ghost use Rattle.std.specs.Prelude.{◌≢◌, ◌<◌, ◌^◌, IfErr};
 ghost use Rattle.jx_portion.specs.Reading.{number_at, Gives};
 ghost use Rattle.jx_portion.specs.Spelling.{number};

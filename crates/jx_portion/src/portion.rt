@@ -1,4 +1,4 @@
-// Portions of a text.
+// Partial results of a text.
 ghost use Rattle.std.specs.Prelude.{◌≡◌, ◌+◌, ◌<◌, ◌^◌, ◌++◌, ◌↔◌, ℕ, List, Option, None, Some, length, unwrap_or, IfOk, IfErr, IsOk};
 ghost use Rattle.jx_run.specs.Verdict.{Judged};
 ghost use Rattle.jx_portion.specs.Portion.{end_of, start_of, IsMismatch, IsPortion, Meets};
@@ -10,13 +10,13 @@ use std::alloc::{AllocError, Global};
 use std::marker::Model;
 use thiserror::Error;
 
-/// Why two portions can't be joined.
+/// Why two partial results can't be joined.
 #[derive(Clone, Copy, Debug, PartialEq, Eq, Error)]
 pub enum Mismatch {
     /// They were read with different depths.
     #[error("the depths differ")]
     Depths,
-    /// One tells where it stands, and the other doesn't.
+    /// One says where it begins, and the other doesn't.
     #[error("one has no offset")]
     Froms,
     /// The right doesn't begin where the left ends.
@@ -27,8 +27,8 @@ pub enum Mismatch {
     TooLong,
 }
 
-/// What reading a part of a text comes to, which may be cut anywhere, and where the part stands in the text, if that was
-/// told. Its size is bounded by the depth, whatever the length of the part.
+/// The partial result of a part of a text, which may be cut anywhere, and where the part is in the text, if that was
+/// given. Its size is bounded by the depth, whatever the length of the part.
 #[derive(Drop)]
 pub struct Portion {
     pub(crate) from: Option<usize>,
@@ -47,7 +47,8 @@ impl Model for Portion {
 }
 
 impl Portion {
-    /// Reads a part of a text. Its first byte stands at the offset `from`, if that is told. It fails only for want of memory.
+    /// Reads a part of a text. Its first byte stands at the offset `from`, if that is given. It fails only when out of
+    /// memory.
     pub fn of(
         alloc: Global,
         bytes: &[u8],
@@ -61,7 +62,7 @@ impl Portion {
         Ok(Portion { from, run })
     }
 
-    /// Reads the bytes behind it too. It fails only for want of memory.
+    /// Reads the bytes after it too. It fails only when out of memory.
     pub fn and(self, alloc: Global, more: &[u8]) -> Result<Portion, AllocError>
         requires fits { end_of self + length more.now < 2 ^ 64 }
         ensures of { IfOk result (λ p. (bytes : List ℕ) (f : Option ℕ) (d : ℕ) → IsPortion bytes f d self → IsPortion (bytes ++ more.now) f d p) }
@@ -90,7 +91,7 @@ impl Portion {
         }
     }
 
-    /// The offset of its first byte in the text, if that was told.
+    /// The offset of its first byte in the text, if that was given.
     pub fn from(&self) -> Option<usize>
         ensures { result ≡ self.now.from }
     {
@@ -104,7 +105,7 @@ impl Portion {
         self.from.unwrap_or(0)
     }
 
-    /// The offset just behind its last byte.
+    /// The offset just after its last byte.
     pub fn end(&self) -> usize
         ensures value { result ≡ end_of self.now }
     {
@@ -141,7 +142,7 @@ impl Portion {
         }
     }
 
-    /// Joins with the portion to the right. It fails only for want of memory.
+    /// Joins with the partial result to the right. It fails only when out of memory.
     pub fn join(self, right: Portion) -> Result<Portion, AllocError>
         requires meets { Meets self right }
         ensures of { IfOk result (λ j. (xs ys : List ℕ) (f g : Option ℕ) (d : ℕ) → IsPortion xs f d self → IsPortion ys g d right → IsPortion (xs ++ ys) f d j) }

@@ -1,4 +1,4 @@
-// A record as a whole: its head, what it says of a run, and its digest.
+// A run file as a whole: its head, what it says of a run, and its digest.
 ghost use Rattle.std.specs.Prelude.{◌≡◌, ◌≢◌, ◌≤◌, map, IfErr, IfOk};
 ghost use Rattle.jx_portion.specs.Fields.{run_fields, structure_fields};
 ghost use Rattle.jx_portion.specs.Reading.{body_at, depth_at, head_at, many_at, record_at, run_at, sealed_at, structure_at, structures_at, tag_at, Gives, IsSealed};
@@ -13,7 +13,7 @@ use jx_run::Transition;
 use sha2::{Digest, Sha256};
 use std::alloc::Global;
 
-/// How many bytes the head of a record has.
+/// How many bytes the head of a run file has.
 pub const HEAD: usize = 24;
 
 /// How many bytes the digest has.
@@ -22,17 +22,17 @@ pub(crate) const DIGEST: usize = 32;
 /// How many structures a run may have.
 const STRUCTURES: usize = 32;
 
-/// The first eight bytes of a record: 89, `jxrun`, a line feed and the version.
+/// The first eight bytes of a run file: 89, `jxrun`, a line feed and the version.
 pub(crate) const TAG: usize = 0x896A_7872_756E_0A01;
 
-/// What the head of a record says: how many bytes the record has, and how many containers the depth of its run allows.
+/// The head of a run file: how many bytes the run file has, and how many containers the depth of its run allows.
 #[derive(Clone, Copy, Debug, PartialEq, Eq)]
 pub struct Head {
     pub size: usize,
     pub depth: u32,
 }
 
-/// What a record says of a run.
+/// The contents of a run file.
 #[derive(Drop)]
 pub(crate) struct RunParts {
     pub(crate) from: Option<usize>,
@@ -41,7 +41,7 @@ pub(crate) struct RunParts {
     pub(crate) structures: Vec<StructureParts>,
 }
 
-/// Reads that the bytes are a record of this version.
+/// Reads that the bytes are a run file of this version.
 #[tactic(auto, unfolding(crate::specs::Reading::tag_at))]
 fn tag_of(bytes: &[u8]) -> Result<&[u8], DecodeFault>
     ensures reads { Gives (λ x. x.now) result (tag_at bytes.now) }
@@ -74,7 +74,7 @@ fn depth_of(bytes: &[u8]) -> Result<(u32, &[u8]), DecodeFault>
     Ok((containers as u32, rest))
 }
 
-/// What the first bytes of a record say of it. They have to be `HEAD` bytes at least; what stands behind is not looked at.
+/// The head of a run file, by its first bytes. They have to be `HEAD` bytes at least; the rest is not looked at.
 #[tactic(auto, unfolding(crate::specs::Reading::head_at))]
 pub fn head_of(bytes: &[u8]) -> Result<(Head, &[u8]), DecodeFault>
     ensures reads { Gives (λ x. (x.0, x.1.now)) result (head_at bytes.now) }
@@ -87,7 +87,7 @@ pub fn head_of(bytes: &[u8]) -> Result<(Head, &[u8]), DecodeFault>
     Ok((Head { size, depth }, rest))
 }
 
-/// Reads up to the digest, which has to be that of all bytes of the record before it.
+/// Reads up to the digest, which has to be that of all bytes of the run file before it.
 #[tactic(auto, unfolding(crate::specs::Reading::sealed_at))]
 fn sealed<'a>(bytes: &[u8], rest: &'a [u8]) -> Result<&'a [u8], DecodeFault>
     ensures reads { Gives (λ x. x.now) result (sealed_at bytes.now rest.now) }
@@ -106,7 +106,7 @@ fn sealed<'a>(bytes: &[u8], rest: &'a [u8]) -> Result<&'a [u8], DecodeFault>
     }
 }
 
-/// The depth that a record names, and its bytes between the head and the digest.
+/// The depth that a run file names, and its bytes between the head and the digest.
 #[tactic(auto, unfolding(crate::specs::Reading::body_at))]
 pub(crate) fn body_of(bytes: &[u8]) -> Result<(u32, &[u8]), DecodeFault>
     ensures reads { Gives (λ x. (x.0, x.1.now)) result (body_at bytes.now) }
@@ -178,7 +178,7 @@ fn run_of(alloc: Global, bytes: &[u8]) -> Result<RunParts, DecodeFault>
     })
 }
 
-/// What a record says: a depth, and the fields of a run.
+/// The contents of a run file: a depth, and the fields of a run.
 #[tactic(auto, unfolding(crate::specs::Reading::record_at))]
 pub(crate) fn record_of(alloc: Global, bytes: &[u8]) -> Result<(Depth, RunParts), DecodeFault>
     ensures reads { Gives (λ x. (x.0, run_fields x.1)) result (record_at bytes.now) }

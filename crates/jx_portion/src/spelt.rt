@@ -1,4 +1,4 @@
-// What stands in a record, and lists of it.
+// Fields of a run file, and lists of them.
 ghost use Rattle.std.specs.Prelude.{◌≡◌, ◌++◌, ℕ, List, Option, OnOk};
 ghost use Rattle.jx_portion.specs.Reading.{many_at, optional_at, several_at, Gives};
 ghost use Rattle.jx_portion.specs.Spelling.{optional, several, AreSpelt, IfThere};
@@ -7,21 +7,21 @@ use crate::choices::flag_of;
 use crate::fault::DecodeFault;
 use std::alloc::{AllocError, Global};
 
-/// What has one spelling in a record.
+/// A field with one encoding in a run file.
 pub(crate) trait Spelt: Copy {
     ghost use Rattle.std.specs.Prelude.{ℕ, List, Result};
     ghost use Rattle.jx_portion.specs.declared.fault.RunFault.{RunFault};
 
-    /// Its spelling.
+    /// Its encoding.
     ghost spelling: { Self → List ℕ };
 
-    /// What stands at the front of bytes, and the bytes behind it.
+    /// The field at the front of bytes, and the bytes after it.
     ghost reading: { List ℕ → Result (Self × List ℕ) RunFault };
 
-    /// It is not too large to be spelt.
+    /// It is not too large to be written.
     ghost fits: { Self → Type 0 };
 
-    /// Puts its spelling behind these bytes.
+    /// Puts its encoding after these bytes.
     fn put(self, out: &mut Vec<u8>) -> Result<(), AllocError>
         ensures fits { fits self }
         ensures put { OnOk result (out.new.items ≡ out.old.items ++ spelling self) };
@@ -75,7 +75,7 @@ pub(crate) fn read_several<T: Spelt>(
     read_many(alloc, count, rest)
 }
 
-/// Puts what may be absent behind these bytes.
+/// Puts what may be absent after these bytes.
 pub(crate) fn put_optional<T: Spelt>(item: Option<T>, out: &mut Vec<u8>) -> Result<(), AllocError>
     ensures fits { OnOk result (IfThere T.fits item) }
     ensures put { OnOk result (out.new.items ≡ out.old.items ++ optional T.spelling item) }
@@ -92,7 +92,7 @@ pub(crate) fn put_optional<T: Spelt>(item: Option<T>, out: &mut Vec<u8>) -> Resu
     Ok(())
 }
 
-/// Puts how many items there are, and each of them, behind these bytes.
+/// Puts how many items there are, and each of them, after these bytes.
 pub(crate) fn put_several<T: Spelt>(items: &[T], out: &mut Vec<u8>) -> Result<(), AllocError>
     ensures fits { OnOk result (AreSpelt T.fits items.now) }
     ensures put { OnOk result (out.new.items ≡ out.old.items ++ several T.spelling items.now) }

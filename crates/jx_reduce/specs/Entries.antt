@@ -28,7 +28,7 @@ expect_at AnyAfter _ = After
 expect_at ValueOrName h = value_or_name h
 expect_at AfterOrColon h = after_or_colon h
 
--- the entry that a mark leads to where it is no fault
+-- the entry that a token leads to where it is no fault
 abbrev pub string_leads : Entry → Entry
 string_leads AnyObjectFirst = AnyColon
 string_leads AnyName = AnyColon

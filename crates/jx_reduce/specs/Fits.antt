@@ -1,4 +1,4 @@
--- What a depth allows.
+-- Forms that a depth allows.
 use Rattle.std.specs.Prelude.{◌≡◌, ℕ, ◌+◌, ◌<◌, ◌≤◌, None, Some, length, false}
 use Rattle.jx_reduce.specs.Form.{Form, levels_of}
 use Rattle.jx_reduce.specs.Join.{all_faulted}

@@ -1,4 +1,4 @@
--- The reduced form of marks, which does not know the open containers at entry.
+-- The reduced form of tokens, which does not know the open containers at entry.
 use Rattle.std.specs.Prelude.{ℕ, ◌-◌, List, [], ◌∷◌, ◌++◌, Option, Some, None, length, map, nat_lt, if◌then◌else◌, slice_get}
 use Rattle.jx_reduce.specs.Entries.{expect_at}
 use Rattle.jx_reduce.specs.Read.{Reading, went, stopped, too_deep, top, without_top}
@@ -17,7 +17,7 @@ pub record Form : Type 0 where
   pub exit : Option Entry
   pub heights : List ℕ
 
--- what the levels come to, whatever the depth
+-- what the levels lead to, whatever the depth
 pub data Plain : Type 0 where
   halt : ℕ → Plain
   go : Expect → List Holder → Plain

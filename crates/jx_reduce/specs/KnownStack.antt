@@ -1,4 +1,4 @@
--- What a known stack shows: the depth, and the plain reading of the marks that it was given.
+-- A known stack: the depth, and the plain reading of the tokens that it was given.
 use Rattle.std.specs.Prelude.{◌≡◌, ℕ, ◌≤◌, List, [], ◌∷◌, length, take}
 use Rattle.jx_reduce.specs.Read.{Reading, went, stopped, too_deep, read}
 use Rattle.jx_reduce.specs.declared.table.expect.Expect.TheVariants.{Value}
@@ -12,7 +12,7 @@ pub record Known : Type 0 where
 abbrev pub start : Reading
 start = went Value []
 
--- these are the marks that it was given since the start
+-- these are the tokens that it was given since the start
 abbrev pub HasRead : List Mark → Known → Type 0
 HasRead marks k = k.reading ≡ read k.depth marks start
 
@@ -21,13 +21,14 @@ IsFault (went e s) = ⊥
 IsFault (stopped at) = Unit {0}
 IsFault (too_deep at) = Unit {0}
 
--- the reading went on over a beginning of these marks
+-- the reading went on over a beginning of these tokens
 pub record IsPartRead (old new : Known) (marks : List Mark) : Type 0 where
   pub count : ℕ
   pub within : count ≤ length marks
   pub reading : new.reading ≡ read old.depth (take count marks) old.reading
 
--- what it has seen of the tokens of a scan: the ends are of no account, but that they begin with the depth, which therefore stays
+-- what it has seen of the tokens of a scan: the ends are ignored, but that they begin with the depth, which therefore
+-- stays
 pub record HasSeen (marks : List Mark) (ends : List ℕ) (stack : Known) : Type 0 where
   pub read : HasRead marks stack
   pub rest : List ℕ

@@ -1,4 +1,4 @@
--- The reduced form of marks, made mark by mark.
+-- The reduced form of tokens, made token by token.
 use Rattle.std.specs.Prelude.{ℕ, List, [], ◌∷◌, Option, Some, None}
 use Rattle.jx_reduce.specs.Table.{next_of, change_of, Change, same, added, removed}
 use Rattle.jx_reduce.specs.Entries.{expect_at, leads_to}
@@ -12,7 +12,7 @@ use Rattle.jx_reduce.specs.declared.forms.level.Level.{Level}
 use Rattle.jx_reduce.specs.declared.forms.ended_level.EndedLevel.{EndedLevel}
 use Rattle.jx_lex.specs.declared.alphabet.mark.Mark.{Mark}
 
--- a mark that leads nowhere is a fault
+-- a token that leads nowhere is a fault
 abbrev pub fault_unless : Option Expect → ℕ → Option ℕ
 fault_unless None at = Some at
 fault_unless (Some e) at = None
@@ -26,7 +26,7 @@ faults_at x m = record { array = fault_at x m Array; object = fault_at x m Objec
 abbrev pub end_at : Entry → Mark → EndedLevel
 end_at x m = record { array = fault_at x m Array; object = fault_at x m Object; bottom = m.at }
 
--- the reduced form of one mark
+-- the reduced form of one token
 abbrev pub of_change : Change → Entry → Mark → Form
 of_change same x m = record { ended = []; last = faults_at x m; opens = []; exit = Some (leads_to m.kind x); heights = [] }
 of_change (added h) x m = record { ended = []; last = faults_at x m; opens = h ∷ []; exit = Some (leads_to m.kind x); heights = m.at ∷ [] }
@@ -42,7 +42,7 @@ abbrev pub pushed_from : ℕ → Form → Mark → Option Entry → Form
 pushed_from d r m None = r
 pushed_from d r m (Some x) = joined d r (of_mark x m)
 
--- one more mark
+-- one more token
 abbrev pub pushed : ℕ → Form → Mark → Form
 pushed d r m = pushed_from d r m r.exit
 

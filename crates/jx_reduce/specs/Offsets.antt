@@ -22,7 +22,7 @@ pub record OffsetsIn (Q : ℕ → Type 0) (r : Form) : Type 0 where
   pub last : FaultsIn Q r.last
   pub heights : EachIn Q r.heights
 
--- the marks' offsets rise, from this one on
+-- the tokens' offsets rise, from this one on
 abbrev pub RisingFrom : ℕ → List Mark → Type 0
 RisingFrom b [] = Unit {0}
 RisingFrom b (m ∷ ms) = (b ≤ m.at) × RisingFrom (m.at + 1) ms

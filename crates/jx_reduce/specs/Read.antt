@@ -1,4 +1,4 @@
--- The plain reading of marks, which knows all open containers.
+-- The plain reading of tokens, which knows all open containers.
 use Rattle.std.specs.Prelude.{ℕ, List, [], ◌∷◌, Option, Some, None, fold, length, nat_lt, if◌then◌else◌}
 use Rattle.jx_reduce.specs.Table.{next_of, change_of, Change, same, added, removed}
 use Rattle.jx_reduce.specs.declared.table.holder.Holder.{Holder}
@@ -6,7 +6,7 @@ use Rattle.jx_reduce.specs.declared.table.holder.Holder.TheVariants.{Bottom}
 use Rattle.jx_reduce.specs.declared.table.expect.Expect.{Expect}
 use Rattle.jx_lex.specs.declared.alphabet.mark.Mark.{Mark}
 
--- what a reading comes to; open containers stand innermost first
+-- what a reading leads to; open containers stand innermost first
 pub data Reading : Type 0 where
   went : Expect → List Holder → Reading
   stopped : ℕ → Reading
@@ -21,7 +21,7 @@ abbrev pub without_top : List Holder → List Holder
 without_top [] = []
 without_top (_ ∷ s) = s
 
--- a mark that is no fault changes the open list, within the depth
+-- a token that is no fault changes the open list, within the depth
 abbrev pub changed : ℕ → ℕ → Change → Expect → List Holder → Reading
 changed d at same e s = went e s
 changed d at (added h) e s = if nat_lt (length s) d then went e (h ∷ s) else too_deep at

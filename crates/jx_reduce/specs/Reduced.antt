@@ -1,4 +1,4 @@
--- What the program shows of a reduced form.
+-- A reduced form as the program shows it.
 use Rattle.std.specs.Prelude.{ℕ, List}
 use Rattle.jx_reduce.specs.Read.{Reading}
 use Rattle.jx_reduce.specs.Form.{Form, acts}
@@ -12,6 +12,6 @@ depth_of r = r.depth
 abbrev pub form_in : Reduced → Form
 form_in r = form_of r.levels
 
--- what the marks do over these open containers, innermost first
+-- what the tokens do over these open containers, innermost first
 abbrev pub answer_of : Reduced → List Holder → Reading
 answer_of r s = acts r.depth (form_of r.levels) s

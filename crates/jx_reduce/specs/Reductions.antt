@@ -1,4 +1,4 @@
--- The reduced forms of one list of marks, from each entry.
+-- The reduced forms of one list of tokens, from each entry.
 use Rattle.std.specs.Prelude.{◌≡◌, ℕ, ◌<◌, ◌≤◌, List, length}
 use Rattle.jx_reduce.specs.Entries.{expect_at}
 use Rattle.jx_reduce.specs.Read.{Reading, top, then_by, read, went}
@@ -41,7 +41,7 @@ entry_of Name = AnyName
 entry_of Colon = AnyColon
 entry_of After = AnyAfter
 
--- what the marks do from this expectation, over these open containers, innermost first
+-- what the tokens do from this expectation, over these open containers, innermost first
 abbrev pub answer : Forms → Expect → List Holder → Reading
 answer f e s = acts f.depth (form_at f (entry_of e)) s
 
@@ -56,7 +56,7 @@ pub record IsBefore (l r : Forms) : Type 0 where
   pub left : (x : Entry) → OffsetsIn (λ p. p < between) (form_at l x)
   pub right : (x : Entry) → OffsetsIn (λ p. between ≤ p) (form_at r x)
 
--- the moves over both lists of marks are the right's from where the left went
+-- the moves over both lists of tokens are the right's from where the left went
 abbrev pub IsJoin : Forms → Forms → Forms → Type 0
 IsJoin l r j = (e : Expect) (s : List Holder) → length s ≤ l.depth → answer j e s ≡ then_by (answer r) (answer l e s)
 

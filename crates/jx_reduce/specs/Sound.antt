@@ -1,4 +1,4 @@
--- What every structure keeps, and what parts must be to make one.
+-- Facts that every structure keeps, and what parts must be to make one.
 use Rattle.std.specs.Prelude.{ℕ, ◌+◌, ◌≤◌, List, [], ◌∷◌, Option, None, Some, length}
 use Rattle.jx_reduce.specs.Fits.{Fits, GoesOn}
 use Rattle.jx_reduce.specs.Form.{Form}
@@ -6,12 +6,12 @@ use Rattle.jx_reduce.specs.Offsets.{OffsetsIn, RisingFrom}
 use Rattle.jx_reduce.specs.Structure.{StructureValue}
 use Rattle.jx_lex.specs.declared.alphabet.mark.Mark.{Mark}
 
--- the first offset behind these marks, which stand from an offset on
+-- the first offset after these tokens, which stand from an offset on
 abbrev pub end_of : ℕ → List Mark → ℕ
 end_of b [] = b
 end_of b (m ∷ ms) = end_of (m.at + 1) ms
 
--- a form within the depth, whose offsets lie behind the head
+-- a form within the depth, whose offsets lie after the head
 pub record IsTail (d b : ℕ) (t : Form) : Type 0 where
   pub fits : Fits d t
   pub goes_on : GoesOn t

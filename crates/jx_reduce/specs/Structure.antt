@@ -1,4 +1,4 @@
--- What a structure keeps of a list of marks, and what it means that it is the structure of a list.
+-- A structure as contracts see it, and when it is the structure of a list of tokens.
 use Rattle.std.specs.Prelude.{◌≡◌, ℕ, ◌<◌, ◌≤◌, List, Option, None, Some, length}
 use Rattle.jx_reduce.specs.Fits.{IsOfSize}
 use Rattle.jx_reduce.specs.Form.{Form, acts}
@@ -8,26 +8,26 @@ use Rattle.jx_reduce.specs.declared.table.holder.Holder.{Holder}
 use Rattle.jx_reduce.specs.declared.table.expect.Expect.{Expect}
 use Rattle.jx_lex.specs.declared.alphabet.mark.Mark.{Mark}
 
--- the first marks, and the form of those behind them, where there is one
+-- the first tokens, and the form of those after them, where there is one
 pub record StructureValue : Type 0 where
   pub depth : ℕ
   pub head : List Mark
   pub tail : Option Form
 
--- what the form does, whatever is expected; where there is none the reading stays where it came to
+-- what the form does, whatever is expected; where there is none the reading stays where it led to
 abbrev pub behind : ℕ → Option Form → Expect → List Holder → Reading
 behind d None e s = went e s
 behind d (Some t) e s = acts d t s
 
--- what the marks do from this expectation, over these open containers, innermost first: those of the head by the table of
--- moves, and those behind it by the form
+-- what the tokens do from this expectation, over these open containers, innermost first: those of the head by the table
+-- of moves, and those after it by the form
 abbrev pub answer : StructureValue → Expect → List Holder → Reading
 answer f e s = then_by (behind f.depth f.tail) (read f.depth f.head (went e s))
 
 abbrev pub IsOf : List Mark → StructureValue → Type 0
 IsOf ms f = (e : Expect) (s : List Holder) → length s ≤ f.depth → answer f e s ≡ read f.depth ms (went e s)
 
--- the moves over both lists of marks are the right's from where the left went
+-- the moves over both lists of tokens are the right's from where the left went
 abbrev pub IsJoin : StructureValue → StructureValue → StructureValue → Type 0
 IsJoin l r j = (e : Expect) (s : List Holder) → length s ≤ l.depth → answer j e s ≡ then_by (answer r) (answer l e s)
 
@@ -54,7 +54,7 @@ abbrev pub IsTailOfSize : ℕ → Option Form → Type 0
 IsTailOfSize d None = Unit {0}
 IsTailOfSize d (Some t) = IsOfSize d t
 
--- how much is kept: two marks at most, and a form within the depth
+-- how much is kept: two tokens at most, and a form within the depth
 pub record IsSmall (d : ℕ) (f : StructureValue) : Type 0 where
   pub head : length f.head ≤ 2
   pub tail : IsTailOfSize d f.tail

@@ -1,4 +1,4 @@
--- The table of moves (RFC 8259, sections 2 to 5): what each mark makes of the expectation and of the open containers.
+-- The table of moves (RFC 8259, sections 2 to 5): what each token makes of the expectation and of the open containers.
 use Rattle.std.specs.Prelude.{Option, Some, None}
 use Rattle.jx_reduce.specs.declared.table.holder.Holder.{Holder}
 use Rattle.jx_reduce.specs.declared.table.holder.Holder.TheVariants.{Array, Object}
@@ -40,7 +40,7 @@ where_comma After Array = Some Value
 where_comma After Object = Some Name
 where_comma _ _ = None
 
--- the new expectation, or none where the mark is a fault
+-- the new expectation, or none where the token is a fault
 abbrev pub next_of : MarkKind → Expect → Holder → Option Expect
 next_of OpenArray e _ = where_value ArrayFirst e
 next_of CloseArray e h = where_close_array e h
@@ -54,7 +54,7 @@ next_of True e _ = where_value After e
 next_of False e _ = where_value After e
 next_of Null e _ = where_value After e
 
--- what a mark does to the list of open containers
+-- what a token does to the list of open containers
 pub data Change : Type 0 where
   same : Change
   added : Holder → Change

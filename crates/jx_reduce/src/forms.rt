@@ -1,4 +1,4 @@
-// What marks come to from an entry, whatever stands open.
+// Forms: the outcome of tokens from an entry, whatever is open.
 pub(crate) mod act;
 pub(crate) mod checks;
 pub(crate) mod ended_level;

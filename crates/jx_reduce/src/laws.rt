@@ -1,4 +1,4 @@
-// Laws of the structures of marks, each on a function that does nothing.
+// Laws of the structures of tokens, each on a function that does nothing.
 ghost use Rattle.std.specs.Prelude.{◌≤◌, ℕ};
 ghost use Rattle.jx_reduce.specs.Reductions.{Forms, IsBefore, SpansIn};
 ghost use Rattle.jx_reduce.specs.Structure as structure;
@@ -9,7 +9,7 @@ pub fn offsets_lie_in_spans()
     ensures before { (low between high : ℕ) (left right : Forms) → SpansIn low between left → SpansIn between high right → IsBefore left right }
 {}
 
-/// So it is with the structures that keep the first marks and one form.
+/// So it is with the structures that keep the first tokens and one form.
 pub fn structures_lie_in_spans()
     ensures wider { (low high less more : ℕ) (f : structure.StructureValue) → less ≤ low → high ≤ more → structure.SpansIn low high f → structure.SpansIn less more f }
     ensures before { (low between high : ℕ) (left right : structure.StructureValue) → structure.SpansIn low between left → structure.SpansIn between high right → structure.IsBefore left right }

@@ -1,4 +1,4 @@
-//! The structure of marks: what may stand next, and what each mark makes of it, for every list of open containers.
+//! The structure of tokens: what may stand next, and what each token makes of it, for every list of open containers.
 #![tactic(auto)]
 
 mod forms;

@@ -1,4 +1,4 @@
-// What marks come to from each entry.
+// The forms of tokens from each entry.
 pub(crate) mod reduced;
 pub(crate) mod reducer;
 pub(crate) mod reductions;

@@ -1,4 +1,4 @@
-// What each mark does to the expectation and to the open containers.
+// The table of moves: the effect of each token on the expectation and on the open containers.
 pub(crate) mod expect;
 pub(crate) mod holder;
 pub(crate) mod moves;

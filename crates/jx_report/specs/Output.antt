@@ -1,4 +1,4 @@
--- What is written for an input, and how the program then ends.
+-- The output for an input, and how the program then ends.
 use Rattle.std.specs.Prelude.{◌≡◌, ℕ, List, ◌++◌, codes, map, string_bytes}
 use Rattle.jx_run.specs.declared.texts.verdict.Verdict.{Verdict}
 use Rattle.jx_run.specs.declared.texts.settings.Settings.{Settings}
@@ -33,7 +33,7 @@ SaysElements elements output exit = (output ≡ element_lines elements) × (exit
 abbrev pub ListsRows : Settings → List ℕ → List ℕ → Exit → Type 0
 ListsRows settings text output exit = (tree : Tree) × IsDocumentBy settings 0 text tree × SaysRows (rows tree) output exit
 
--- what pointers come to in its tree
+-- the answers to pointers in its tree
 abbrev pub AnswersPointers : List (List ℕ) → Settings → List ℕ → List ℕ → Exit → Type 0
 AnswersPointers pointers settings text output exit = (tree : Tree) × IsDocumentBy settings 0 text tree × PointerLines text tree pointers output exit
 
@@ -42,7 +42,7 @@ AnswersPointers pointers settings text output exit = (tree : Tree) × IsDocument
 abbrev pub TextOutput : (List ℕ → Exit → Type 0) → Settings → List ℕ → List ℕ → Exit → Type 0
 TextOutput IsForText settings input output exit = (verdict : Verdict) × IsVerdictBy settings input verdict × ByVerdict IsForText verdict output exit
 
--- the whole output for an input by settings, and the exit
+-- the whole output for an input by settings, and the status
 abbrev pub Output : Task → Settings → List ℕ → List ℕ → Exit → Type 0
 Output Check settings input output exit = TextOutput SaysAccepted settings input output exit
 Output Index settings input output exit = TextOutput (ListsRows settings input) settings input output exit

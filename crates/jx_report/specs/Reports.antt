@@ -1,4 +1,4 @@
--- What a report does to the bytes of its ends.
+-- A report from a reader to a writer, by their bytes.
 use Rattle.std.specs.Prelude.{ℕ, ◌*◌, ◌<◌, ◌≤◌, List, length, Option}
 use Rattle.std.specs.Io.KnownBytes.{Appends}
 use Rattle.jx_task.specs.declared.command.Command.{Command}
@@ -7,11 +7,11 @@ use Rattle.jx_ends.specs.Ends.{ReadsToEnd, AppendsBeginning}
 use Rattle.jx_words.specs.Verdicts.{shown_output}
 use Rattle.jx_report.specs.Output.{Output}
 
--- how many bytes there may be, in pieces of that many each
+-- how many bytes there may be, in chunks of that many each
 abbrev pub greatest_length : ℕ → ℕ
 greatest_length piece = 4294967295 * piece
 
--- the reader gave all that it had, in no more pieces than there may be, and this is the output for it
+-- the reader gave all that it had, in no more chunks than there may be, and this is the output for it
 pub record IsAnswered (IsFor : List ℕ → List ℕ → Exit → Type 0) (piece : ℕ) (unread left : Option (List ℕ)) (output : List ℕ) (exit : Exit) : Type 0 where
   pub text : List ℕ
   pub read : ReadsToEnd unread left text
@@ -37,7 +37,7 @@ pub record ReportsInPart (command : Command) (unread left written grown : Option
   pub answer : Output command.task command.settings text output exit
   pub wrote : AppendsBeginning written grown (shown_output command.quiet output)
 
--- the reader gave all that it had, and that makes more pieces than there may be
+-- the reader gave all that it had, and that makes more chunks than there may be
 pub record HasTooManyPieces (command : Command) (unread left : Option (List ℕ)) : Type 0 where
   pub text : List ℕ
   pub read : ReadsToEnd unread left text

@@ -23,13 +23,14 @@ use std::{mem, thread};
 /// which costs a short input more than workers gain.
 const FIRST_STEP: usize = 256 * 1024;
 
-/// Behind so many bytes batches are longer.
+/// After so many bytes batches are longer.
 const ENOUGH: usize = 4 * 1024 * 1024;
 
-/// How many bytes are read at a time behind that, at the least. From there on batches grow with the input.
+/// How many bytes are read at a time after that, at the least. From there on batches grow with the input.
 const SHARED_STEP: usize = 2 * 1024 * 1024;
 
-/// How many bytes are read first where a batch may have so many. Several workers still have more than one piece in them.
+/// How many bytes are read first where a batch may have so many. Several workers still have more than one chunk in
+/// them.
 fn first_step(command: &Command, batch: usize) -> usize
     ensures { result ≤ batch }
 {
@@ -110,8 +111,8 @@ fn answer_to_all<R: Threads + Wait + Sync, S: Source, G: Gate + Sync>(
 
 /// Reads to the end of input batch by batch, and has it answered by the crew.
 ///
-/// Where workers share a batch, the next one is read meanwhile. Behind a short one it is read afterwards: that takes less time
-/// than to start a thread, and no second buffer.
+/// Where workers share a batch, the next one is read meanwhile. After a short one it is read afterwards: that takes
+/// less time than to start a thread, and no second buffer.
 fn answer_in_batches<R: Threads + Wait + Sync, S: Source + Send, G: Gate + Sync>(
     crew: &Crew<'_, R, G>,
     reader: &mut S,
@@ -191,7 +192,7 @@ fn widen(bytes: &mut Vec<u8>, count: usize, most: usize) -> Result<(), AllocErro
     bytes.resize(bytes.len().saturating_mul(2).min(most), 0)
 }
 
-/// Whether a reading asks no gate by itself: its tokens are judged in turn, without pieces.
+/// Whether a reading asks no gate by itself: its tokens are judged in turn, without chunks.
 fn asks_nothing(reading: &Reading<'_>) -> bool {
     match reading {
         Reading::Names(_) | Reading::Pointers(_) => true,
@@ -199,7 +200,7 @@ fn asks_nothing(reading: &Reading<'_>) -> bool {
     }
 }
 
-/// Asks the gate before a read is judged as one piece. Behind a stop nothing is asked.
+/// Asks the gate before a read is judged as one chunk. After a stop nothing is asked.
 fn is_asked_again<G: Gate>(gate: &G) -> bool {
     let event = Event::Drew {
         worker: 0,

@@ -8,7 +8,7 @@ use jx_ends::Exit;
 use jx_run::{ElementVerdict, JudgedElement};
 use jx_words::{push_bytes, push_refusal, push_span};
 
-/// Appends the words for what an element comes to.
+/// Appends the words for the verdict on an element.
 fn push_word(out: &mut Vec<u8>, verdict: ElementVerdict)
     requires { HasRoom out.old 37 }
     ensures words { out.new.items ≡ out.old.items ++ verdict_words verdict }

@@ -7,7 +7,7 @@ ghost use Rattle.jx_report.specs.Output.{Output};
 use jx_answer::{elements_by_settings_are_one, verdicts_by_settings_are_one};
 use jx_run::text_by_settings_has_one_tree;
 
-/// Equal inputs get equal output and an equal exit for a task by settings, whatever the cuttings, workers and gates.
+/// Equal inputs get equal output and an equal exit for a task by settings, whatever the divisions, workers and gates.
 pub fn outputs_are_one()
     ensures { (task : Task) (settings : Settings) (input x y : List ℕ) (e f : Exit) → Output task settings input x e → Output task settings input y f → (x ≡ y) × (e ≡ f) }
 {

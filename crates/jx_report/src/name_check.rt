@@ -7,7 +7,7 @@ use jx_names::NamesReader;
 use jx_run::{NameRule, Refusal, Settings, Verdict};
 use std::alloc::{AllocError, Global};
 
-/// What the rule on names asks of a text that is read from its start: nothing, or that names are compared.
+/// The check of a text's names by the rule on them, as the text is read from its start: nothing, or names are compared.
 #[derive(Drop)]
 pub(crate) enum NameCheck {
     Any,
@@ -25,7 +25,7 @@ impl NameCheck {
         }
     }
 
-    /// Reads a batch behind what was read. Memory is refused too where the last byte has no offset.
+    /// Reads a batch after what was read. It is also out of memory where the last byte has no offset.
     pub fn read(&mut self, batch: &[u8]) -> Result<(), AllocError>
         ensures reads { OnOk result ((settings : Settings) (text : List ℕ) → AreCompared settings text self.old → AreCompared settings (text ++ batch.now) self.new) }
     {

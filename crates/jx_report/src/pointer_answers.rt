@@ -1,4 +1,4 @@
-// What pointers into a text come to. Few are looked up while it is read, many in its index.
+// Answers to pointers into a text. Few are looked up while it is read, many in its index.
 ghost use Rattle.std.specs.Prelude.{◌≡◌, length, map, string_bytes, IfOk};
 ghost use Rattle.jx_run.specs.declared.texts.settings.NameRule.TheVariants.{Any};
 ghost use Rattle.jx_run.specs.declared.texts.verdict.Verdict.TheVariants.{Accepted};
@@ -19,7 +19,7 @@ use std::alloc::{AllocError, Global};
 use std::sync::Wait;
 use std::thread::Threads;
 
-/// So many pointers are looked up in an index, where there is also one for each so many bytes of the text.
+/// From how many pointers on an index is made, where there is also one for each so many bytes of the text.
 pub(crate) const MANY: usize = 10_000;
 
 const BYTES_FOR_EACH: usize = 128;
@@ -29,7 +29,7 @@ fn are_many(pointers: usize, bytes: usize) -> bool {
     pointers >= MANY && pointers >= bytes / BYTES_FOR_EACH
 }
 
-/// What a string that was read as a pointer comes to in an index: why it is none, or what was answered.
+/// The answer to a string that was read as a pointer in an index: why it is not a pointer, or what was found.
 fn answer_of(unread: Option<PointerFault>, answer: Answer) -> PointerAnswer
     ensures { result ≡ answer_of unread answer }
 {
@@ -42,7 +42,7 @@ fn answer_of(unread: Option<PointerFault>, answer: Answer) -> PointerAnswer
     }
 }
 
-/// What strings that were read as pointers come to in an index, in their order.
+/// The answers to strings that were read as pointers in an index, in their order.
 fn answers_of(
     alloc: Global,
     unread: &[Option<PointerFault>],
@@ -58,7 +58,7 @@ fn answers_of(
     Ok(answers)
 }
 
-/// What pointers come to, by one pass over the text for all of them.
+/// The answers to pointers, by one reading of the text for all of them.
 fn answers_in_one_pass(
     alloc: Global,
     settings: &Settings,
@@ -102,7 +102,7 @@ fn answers_in_index<R: Threads + Sync, G: Gate + Sync>(
     answers_of(crew.alloc, &read.unread, &answered)
 }
 
-/// What many pointers come to: the calling thread makes the text's index, and the crew looks the pointers up in it.
+/// The answers to many pointers: the calling thread makes the text's index, and the crew looks the pointers up in it.
 fn many_pointers_answers<R: Threads + Sync, G: Gate + Sync>(
     crew: &Crew<'_, R, G>,
     settings: &Settings,
@@ -132,7 +132,7 @@ pub(crate) fn with_any_names(settings: &Settings) -> Settings
     }
 }
 
-/// What pointers come to in a text that is known to be accepted.
+/// The answers to pointers in a text that is known to be accepted.
 fn answers_in_accepted(
     alloc: Global,
     settings: &Settings,
@@ -146,9 +146,9 @@ fn answers_in_accepted(
     answers_in_one_pass(alloc, &with_any_names(settings), pointers, text)
 }
 
-/// What pointers, in their order, come to in a text by the rule on names, or why it is refused. The crew looks many up in an
-/// index. Few are looked up while the calling thread reads the text. Where names have to be unique it is then read twice: it
-/// is judged first.
+/// The answers to pointers, in their order, in a text by the rule on names, or why it is refused. The crew looks many
+/// up in an index. Few are looked up while the calling thread reads the text. Where names have to be unique it is then
+/// read twice: it is judged first.
 pub fn answers_to_pointers<R: Threads + Wait + Sync, G: Gate + Sync>(
     crew: &Crew<'_, R, G>,
     settings: &Settings,

@@ -93,7 +93,7 @@ impl<'p> PointerReader<'p> {
         self.finder.end()
     }
 
-    /// Reads a batch behind what was read.
+    /// Reads a batch after what was read.
     pub fn read(&mut self, batch: &[u8]) -> Result<(), AllocError>
         requires { fed.end_of self.old.finder + length batch.now < 2 ^ 64 }
         ensures reads { OnOk result ((settings : Settings) (spelt : List (List ℕ)) (text : List ℕ) → AreLookedUp settings spelt text self.old

@@ -26,7 +26,7 @@ pub(crate) fn reply_of_answers(answers: Result<Vec<PointerAnswer>, Refusal>) -> 
     }
 }
 
-/// What pointers come to in a text, or the verdict on what is refused.
+/// The answers to pointers in a text, or the verdict on what is refused.
 pub fn reply_for_pointers<R: Threads + Wait + Sync, G: Gate + Sync>(
     crew: &Crew<'_, R, G>,
     settings: &Settings,

@@ -1,4 +1,4 @@
-// What the bytes of an input come to, while they are read batch by batch.
+// The state of an input that is read batch by batch.
 ghost use Rattle.std.specs.Prelude.{◌≡◌, ◌≢◌, ◌<◌, ◌≤◌, ℕ, List, [], length, OnOk, IfOk, IfErr, IfSome, IsErrOf};
 ghost use Rattle.jx_run.specs.declared.texts.settings.NameRule.TheVariants.{Any};
 ghost use Rattle.jx_run.specs.declared.texts.settings.Settings.{Settings};
@@ -24,16 +24,16 @@ use std::alloc::{AllocError, Global};
 use std::sync::Wait;
 use std::thread::Threads;
 
-/// What the bytes of an input that were read come to. Of those bytes it keeps three at most; of a text that pointers are looked
-/// up in also a name that has begun, of one whose names have to be unique those of open objects, and of such a sequence the last
-/// element.
+/// The state of an input that is read batch by batch. Of its bytes it keeps three at most; of a text that pointers are
+/// looked up in also a name that has begun, of one whose names have to be unique those of open objects, and of such a
+/// sequence the last element.
 #[derive(Drop)]
 pub(crate) enum Reading<'p> {
     /// The verdict on a text.
     Text { reader: Reader, balance: Balance },
     /// The verdict on a text whose names have to be unique.
     Names(NamesReader),
-    /// What pointers come to in a text.
+    /// The look-up of pointers in a text.
     Pointers(PointerReader<'p>),
     /// The verdicts on the elements of a text sequence.
     Elements(SequenceReader),
@@ -81,7 +81,7 @@ impl<'p> Reading<'p> {
         }
     }
 
-    /// Reads a batch behind what was read. Memory is refused too where the last byte has no offset.
+    /// Reads a batch after what was read. It is also out of memory where the last byte has no offset.
     pub fn read<R: Threads + Wait + Sync, G: Gate + Sync>(
         &mut self,
         crew: &Crew<'_, R, G>,
@@ -108,7 +108,7 @@ impl<'p> Reading<'p> {
         }
     }
 
-    /// The reply to all bytes that were read, unless they make too many pieces.
+    /// The reply to all bytes that were read, unless they make too many chunks.
     pub fn into_reply(self, command: &Command) -> Result<Reply, ReportFault>
         requires piece { 1 ≤ command.now.piece }
         ensures ok { IfOk result (λ reply. (text : List ℕ) → IsReadingOf command.now.task command.now.settings text self.entry

@@ -17,14 +17,14 @@ use std::alloc::AllocError;
 use std::sync::Wait;
 use std::thread::Threads;
 
-/// What an input is answered with, before it is written.
+/// The reply to an input, before it is written.
 #[derive(Debug, Drop)]
 pub enum Reply {
     /// The verdict alone.
     Verdict(Verdict),
     /// All rows of an accepted text.
     Rows(Vec<Row>),
-    /// What each pointer into an accepted text comes to.
+    /// The answer to each pointer into an accepted text.
     Pointers(Vec<PointerAnswer>),
     /// The elements of a text sequence.
     Elements(Vec<JudgedElement>),
@@ -44,7 +44,8 @@ impl Reply {
     }
 }
 
-/// The reply for a text sequence: what its elements come to. Where there is one worker, it reads the sequence as one piece.
+/// The reply for a text sequence: the verdicts on its elements. Where there is one worker, it reads the sequence as one
+/// chunk.
 fn sequence_reply<R: Threads + Wait + Sync, G: Gate + Sync>(
     crew: &Crew<'_, R, G>,
     settings: &Settings,
@@ -81,7 +82,7 @@ fn rows_reply<R: Threads + Wait + Sync, G: Gate + Sync>(
     }
 }
 
-/// The reply to a command on an input; `Err` where memory is refused. One worker reads the text, in one pass from its start.
+/// The reply to a command on an input; `Err` when out of memory. One worker reads the text, in one pass from its start.
 /// That takes less time and memory than the runs of several workers and the rows that are then made of these.
 pub fn reply_to<R: Threads + Wait + Sync, G: Gate + Sync>(
     crew: &Crew<'_, R, G>,

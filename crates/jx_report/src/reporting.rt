@@ -13,14 +13,14 @@ use std::thread::Threads;
 /// How many bytes of an input are read at a time, at most.
 const BATCH: usize = 8 * 1024 * 1024;
 
-/// The same for one worker and short pieces. What is read is looked at before it leaves the processor's cache.
+/// The same for one worker and short chunks. What is read is looked at before it leaves the processor's cache.
 const STEP: usize = 256 * 1024;
 
 /// How many bytes of an output are written at a time, at most.
 const BUFFER: usize = 64 * 1024;
 
-/// How many bytes are read at a time: as many whole pieces as a step has room for, where these are two or more. Else as many
-/// as a batch has room for, or a batch where a piece is no shorter.
+/// How many bytes are read at a time: as many whole chunks as a step has room for, where these are two or more. Else as
+/// many as a batch has room for, or a batch where a chunk is no shorter.
 fn batch_of(command: &Command) -> usize
     requires { 1 ≤ command.now.piece }
     ensures { 1 ≤ result }
@@ -64,7 +64,7 @@ pub fn report_in_batches<R: Threads + Wait + Sync, S: Source + Send, W: Sink, G:
     // After a write fault all was read, and a beginning of its output was written.
     ensures beginning { IsErrOf result ReportFault.Write → ReportsInPart command.now (S.remaining reader.old)
         (S.remaining reader.new) (W.contents writer.old) (W.contents writer.new) }
-    // Pieces are too many only where all was read, and it has more of them than there may be.
+    // Chunks are too many only where all was read, and it has more of them than there may be.
     ensures pieces { IsErrOf result ReportFault.Pieces → HasTooManyPieces command.now (S.remaining reader.old)
         (S.remaining reader.new) }
 {
@@ -82,12 +82,12 @@ pub fn report_in_batches<R: Threads + Wait + Sync, S: Source + Send, W: Sink, G:
 /// quiet command writes nothing, and its exit is the same. No memory is taken once the first byte is written. It may wait
 /// for the workers.
 ///
-/// The gate changes no output. One worker asks it as each piece of a batch begins, and the pieces of a batch are numbered
-/// from 0. Several workers ask after each step, as by `read_batch`, and by `judge_batch` for what stands between two record
-/// separators. Rows are asked for by one worker. Where names have to be unique, or few pointers are looked up, one thread reads,
-/// and asks before it judges what a read gave, as piece 0. Many pointers are looked up as by `find_all`. Less than a MiB is read by the
-/// calling thread alone where nobody is asked (`Gate::is_asked`). With several workers the reader is also called from another
-/// thread, one call at a time.
+/// The gate changes no output. One worker asks it as each chunk of a batch begins, and the chunks of a batch are
+/// numbered from 0. Several workers ask after each step, as by `read_batch`, and by `judge_batch` for what stands
+/// between two record separators. Rows are asked for by one worker. Where names have to be unique, or few pointers are
+/// looked up, one thread reads, and asks before it judges what a read gave, as chunk 0. Many pointers are looked up as
+/// by `find_all`. Less than a MiB is read by the calling thread alone where nobody is asked (`Gate::is_asked`). With
+/// several workers the reader is also called from another thread, one call at a time.
 pub fn report<R: Threads + Wait + Sync, S: Source + Send, W: Sink, G: Gate + Sync>(
     rt: &R,
     alloc: Global,
@@ -109,7 +109,7 @@ pub fn report<R: Threads + Wait + Sync, S: Source + Send, W: Sink, G: Gate + Syn
     // After a write fault all was read, and a beginning of its output was written.
     ensures beginning { IsErrOf result ReportFault.Write → ReportsInPart command.now (S.remaining reader.old)
         (S.remaining reader.new) (W.contents writer.old) (W.contents writer.new) }
-    // Pieces are too many only where all was read, and it has more of them than there may be.
+    // Chunks are too many only where all was read, and it has more of them than there may be.
     ensures pieces { IsErrOf result ReportFault.Pieces → HasTooManyPieces command.now (S.remaining reader.old)
         (S.remaining reader.new) }
 {

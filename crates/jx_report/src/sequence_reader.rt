@@ -44,7 +44,7 @@ pub(crate) struct SequenceReader {
     open_ended: bool,
 }
 
-/// Who judges so many bytes: one worker alone, where they are few or one piece.
+/// Who judges so many bytes: one worker alone, where they are few or one chunk.
 fn crew_for<'c, R, G: Gate>(crew: &Crew<'c, R, G>, len: usize, piece: usize) -> Crew<'c, R, G> {
     let workers = match Workers::new(1) {
         Some(one) if len <= piece || is_short(len, crew.gate) => one,
@@ -122,7 +122,7 @@ impl SequenceReader {
         }
     }
 
-    /// Reads bytes behind what was read. There is no record separator among them.
+    /// Reads bytes after what was read. There is no record separator among them.
     fn go_on<R: Threads + Wait + Sync, G: Gate + Sync>(
         &mut self,
         crew: &Crew<'_, R, G>,
@@ -143,7 +143,7 @@ impl SequenceReader {
         Ok(())
     }
 
-    /// What the rule on names makes of the verdict on the last element.
+    /// The verdict on the last element by the rule on names.
     fn named_last(&self, element: JudgedElement) -> Result<JudgedElement, AllocError>
         ensures named { IfOk result (λ named. (text rest : List ℕ) → IsHeld text self.now → element.span.start ≡ self.now.reader.start → element.span.end ≡ length text
             → IsNamed self.now.settings (text ++ rest) element named) }
@@ -157,7 +157,7 @@ impl SequenceReader {
         }
     }
 
-    /// Ends the last element here, and puts it behind the others.
+    /// Ends the last element here, and puts it after the others.
     fn end_element(&mut self) -> Result<(), AllocError>
         ensures judged { OnOk result ((settings : Settings) (text : List ℕ) → AreReadBy settings text self.old → AreEndedBy settings text self.new) }
         ensures rest { self.new ≡ record self.old { judged = self.new.judged } }
@@ -177,8 +177,8 @@ impl SequenceReader {
         }
     }
 
-    /// Judges bytes behind what was read as a sequence of its own, at their offsets in the whole one. They begin and end with
-    /// a record separator.
+    /// Judges bytes after what was read as a sequence of its own, at their offsets in the whole one. They begin and end
+    /// with a record separator.
     fn pass<R: Threads + Wait + Sync, G: Gate + Sync>(
         &mut self,
         crew: &Crew<'_, R, G>,
@@ -207,7 +207,7 @@ impl SequenceReader {
         Ok(())
     }
 
-    /// Reads a batch behind what was read. What stands from its first record separator to its last one is judged as a
+    /// Reads a batch after what was read. What stands from its first record separator to its last one is judged as a
     /// sequence of its own.
     pub fn read<R: Threads + Wait + Sync, G: Gate + Sync>(
         &mut self,

@@ -21,7 +21,7 @@ use std::alloc::Global;
 /// How many bytes the longest line has: that of a row whose numbers have 20 digits each.
 pub(crate) const LONGEST_LINE: usize = 156;
 
-/// Writes what waits in the buffer, unless there is room for a line behind it.
+/// Writes what waits in the buffer, unless there is room for a line after it.
 fn make_room<W: Sink>(writer: &mut W, out: &mut Vec<u8>) -> Result<(), ReportFault>
     requires unfailed { W.has_failed writer.old ≡ false }
     requires large { LONGEST_LINE ≤ vec_capacity out.old }
@@ -94,7 +94,7 @@ fn write_elements<W: Sink>(
     Ok(())
 }
 
-/// Writes a reply behind what waits in the buffer. Its last lines may be left there.
+/// Writes a reply after what waits in the buffer. Its last lines may be left there.
 fn write_lines<W: Sink>(writer: &mut W, out: &mut Vec<u8>, reply: &Reply) -> Result<(), ReportFault>
     requires unfailed { W.has_failed writer.old ≡ false }
     requires room { HasRoom out.old LONGEST_LINE }

@@ -1,4 +1,4 @@
--- What an element of a JSON text sequence comes to (RFC 7464, sections 2.1 and 2.4).
+-- The verdict on an element of a JSON text sequence (RFC 7464, sections 2.1 and 2.4).
 use Rattle.std.specs.Prelude.{◌≡◌, ℕ, ◌<◌, Bool, true, false}
 use Rattle.jx_run.specs.declared.sequences.element_verdict.ElementVerdict.{ElementVerdict}
 use Rattle.jx_run.specs.declared.sequences.element_verdict.ElementVerdict.TheVariants as element
@@ -22,7 +22,7 @@ pub record IsUnclosedText (p : Part) (limit : ℕ) : Type 0 where
   pub accepted : IsAccepted p limit tree
   pub unclosed : EndsUnclosed tree (end_of p)
 
--- what an element comes to; what stands before the first record separator has the offset 0
+-- the verdict on an element; bytes before the first record separator have the offset 0
 abbrev pub IsVerdictOn : Part → ℕ → ElementVerdict → Type 0
 IsVerdictOn p limit element.Unmarked = p.at ≡ 0
 IsVerdictOn p limit (element.Refused refusal) = (0 < p.at) × Judged p.at p.bytes limit (Refused refusal)
@@ -33,7 +33,7 @@ pub record IsJudgedElement (limit : ℕ) (p : Part) (e : JudgedElement) : Type 0
   pub span_is : e.span ≡ part_span p
   pub verdict_is : IsVerdictOn p limit e.verdict
 
--- the verdict on an element behind a separator, by that on its bytes and by whether their last one is open
+-- the verdict on an element after a separator, by that on its bytes and by whether their last one is open
 abbrev pub told : Verdict → Bool → ElementVerdict
 told Accepted true = element.MayBeCut
 told Accepted false = element.Accepted

@@ -1,5 +1,5 @@
--- What a contract sees of a run over part of a JSON text sequence that keeps verdicts alone, and what it means that a run
--- is the summary of bytes.
+-- A run over part of a JSON text sequence that keeps verdicts alone as contracts see it, and when a run is the summary
+-- of bytes.
 use Rattle.std.specs.Prelude.{◌≡◌, ℕ, Bool, List, Option}
 use Rattle.jx_summary.specs.declared.span.Span.{Span}
 use Rattle.jx_run.specs.declared.sequences.element_verdict.JudgedElement.{JudgedElement}
@@ -17,7 +17,7 @@ pub record IsPartRun (bytes : List ℕ) (run : PartRunValue) : Type 0 where
   pub outcomes : IsOutcomeRun bytes run.outcomes
   pub open_ended : run.open_ended ≡ ends_open bytes
 
--- pieces are such parts, and of a finished one the element is kept with what it comes to
+-- parts are such parts, and of a finished one the element is kept with what it leads to
 abbrev pub MarkedElementsValue : Type 0
 MarkedElementsValue = parted.MarkedValue PartRunValue JudgedElement
 

@@ -7,7 +7,7 @@ use Rattle.jx_lex.specs.declared.kind.Kind.TheVariants.{Object, Array, String}
 use Rattle.jx_lex.specs.Token.{IsBlank, IsToken}
 use Rattle.jx_run.specs.Tree.{Tree, node, Children, no_children, child, span}
 
--- any number of insignificant blanks (section 2)
+-- any number of insignificant white space (section 2)
 --   ws = *( %x20 / %x09 / %x0A / %x0D )
 pub data Blanks : ℕ → List ℕ → ℕ → List ℕ → Type 0 where
   no_blanks : {i : ℕ} {bytes : List ℕ} → Blanks i bytes i bytes
@@ -41,7 +41,7 @@ mutual
     object : {i j : ℕ} {bytes rest : List ℕ} {children : Children}
         → Members (suc i) bytes j (0x7d ∷ rest) children → Value i (0x7b ∷ bytes) (suc j) rest (node Object (span i (suc j)) children)
 
-  -- the elements of an array, with the blanks around each (section 5)
+  -- the elements of an array, with the white space around each (section 5)
   --   value *( value-separator value ), value-separator = ws %x2C ws
   pub data Items : ℕ → List ℕ → ℕ → List ℕ → Children → Type 0 where
     last_item : {i j k l : ℕ} {t0 t1 t2 rest : List ℕ} {tree : Tree}
@@ -51,7 +51,7 @@ mutual
         → Blanks i t0 j t1 → Value j t1 k t2 tree → Blanks k t2 l (0x2c ∷ t3) → Items (suc l) t3 m rest more
         → Items i t0 m rest (child None tree more)
 
-  -- the members of an object, with the blanks around each; the string is the name (section 4)
+  -- the members of an object, with the white space around each; the string is the name (section 4)
   --   member *( value-separator member ), member = string name-separator value, name-separator = ws %x3A ws
   pub data Members : ℕ → List ℕ → ℕ → List ℕ → Children → Type 0 where
     last_member : {i j k l m n o : ℕ} {t0 t1 t2 t3 t4 t5 rest : List ℕ} {tree : Tree}

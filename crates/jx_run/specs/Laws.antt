@@ -1,4 +1,4 @@
--- What the laws of the reader say of the outcome of reading a text from its start.
+-- The outcome of reading a text from its start, as the laws of the reader state it.
 use Rattle.std.specs.Prelude.{◌≡◌, ℕ, List, [], Bool, true, false, if◌then◌else◌}
 use Rattle.jx_summary.specs.declared.span.Span.{Span}
 use Rattle.jx_lex.specs.declared.alphabet.state.LexState.{LexState}
@@ -39,7 +39,7 @@ IsTooDeep (went s e o) = ⊥
 IsTooDeep (stopped at) = ⊥
 IsTooDeep (too_deep at) = Unit {0}
 
--- the verdict that an outcome comes to
+-- the verdict of an outcome
 abbrev pub verdict_of : TextReading → Verdict
 verdict_of (went s e o) = if is_end s e o then Accepted else Refused Truncated
 verdict_of (stopped at) = Refused (Stopped at)

@@ -19,7 +19,8 @@ abbrev pub without_mark : List Part → List Part
 without_mark [] = []
 without_mark (p ∷ ps) = if is_mark_alone p then ps else p ∷ ps
 
--- the elements of the input in order, without a mark that stands alone before the first separator where it is ignored
+-- the elements of the input in order, without a byte order mark that stands alone before the first separator where it
+-- is ignored
 abbrev pub elements_by : FrontMark → List ℕ → List Part
 elements_by on_mark.Refused input = elements 0 input
 elements_by on_mark.Ignored input = without_mark (elements 0 input)

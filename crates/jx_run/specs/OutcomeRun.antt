@@ -1,4 +1,4 @@
--- What a contract sees of a run that keeps outcomes alone, and what it means that a run is the summary of bytes.
+-- A run that keeps outcomes alone as contracts see it, and when a run is the summary of bytes.
 use Rattle.std.specs.Prelude.{◌≡◌, ℕ, ◌+◌, ◌<◌, ◌≤◌, List, length, Option, None, Some, All, slice_get}
 use Rattle.jx_lex.specs.declared.alphabet.state.LexState.{LexState}
 use Rattle.jx_summary.specs.declared.span.Span.{Span}
@@ -13,7 +13,8 @@ use Rattle.jx_run.specs.declared.runs.transition.Transition.{Transition}
 use Rattle.jx_run.specs.Reading.{TextReading, stopped, at_exit, and_then, read}
 use Rattle.jx_run.specs.Tree.{span}
 
--- one transition for each state, in the order of the states, and the structures of their marks; transitions may have one structure
+-- one transition for each state, in the order of the states, and the structures of their tokens; transitions may have
+-- one structure
 pub record OutcomeRunValue : Type 0 where
   pub depth : ℕ
   pub start : ℕ
@@ -21,7 +22,7 @@ pub record OutcomeRunValue : Type 0 where
   pub transitions : List Transition
   pub structures : List StructureValue
 
--- what reading comes to from one state: where it ends, and what its marks come to
+-- what reading leads to from one state: where it ends, and what its tokens lead to
 pub record Entries : Type 0 where
   pub exit : LexExit
   pub marks : StructureValue
@@ -41,7 +42,7 @@ entries_of structures (Some w) = with_exit w.exit (slice_get structures w.struct
 abbrev pub entries_at : OutcomeRunValue → LexState → Option Entries
 entries_at run s = entries_of run.structures (slice_get run.transitions (ordinal s))
 
--- what reading from an expectation comes to, over open containers, innermost first
+-- what reading from an expectation leads to, over open containers, innermost first
 abbrev pub outcome_of : Entries → Expect → List Holder → TextReading
 outcome_of e expect holders = at_exit (exit_of e.exit) (answer e.marks expect holders)
 

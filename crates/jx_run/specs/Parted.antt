@@ -1,23 +1,23 @@
--- Bytes of a JSON text sequence, parted at the record separators in them, and what it means that a run keeps what they come to.
+-- Bytes of a JSON text sequence, parted at the record separators in them, and when a run keeps what they lead to.
 use Rattle.std.specs.Prelude.{◌≡◌, ◌<◌, ℕ, List, [], ◌∷◌, ◌++◌, Option, None, Some}
 use Rattle.std.specs.List.{AllZip}
 use Rattle.jx_summary.specs.declared.span.Span.{Span}
 use Rattle.jx_run.specs.Elements.{Part, before_separator, after_separators, filled}
 use Rattle.jx_run.specs.Tree.{span}
 
--- what stands behind the first separator: what is kept of the parts that a further separator ends, and the piece behind the
+-- what follows the first separator: what is kept of the parts that a further separator ends, and the part after the
 -- last separator
 pub record MarkedValue (P F : Type 0) : Type 0 where
   pub done : List F
   pub after : P
 
--- the piece before the first separator, and what stands behind it where there is one
+-- the part before the first separator, and the rest where there is one
 pub record PartedValue (P F : Type 0) : Type 0 where
   pub before : P
   pub marked : Option (MarkedValue P F)
 
--- how a piece is read: its span, its depth, and the bytes that it is the summary of; and when what is kept of a finished part
--- is right for that part, within a depth
+-- how a part is read: its span, its depth, and the bytes that it is the summary of; and when what is kept of a finished
+-- part is right for that part, within a depth
 pub record Meaning (P F : Type 0) : Type 1 where
   pub span : P → Span
   pub depth : P → ℕ
@@ -46,7 +46,7 @@ pub record IsMarked {P F : Type 0} (m : Meaning P F) (limit : ℕ) (behind : Lis
   pub depth : m.depth v.after ≡ limit
   pub after : m.is_of v.after last.bytes
 
--- without a separator the piece of all bytes, else that of the bytes before the first separator, and what stands behind it
+-- without a separator the part of all bytes, else that of the bytes before the first separator, and the rest
 abbrev pub IsSummary : {P F : Type 0} → Meaning P F → List ℕ → P → Option (MarkedValue P F) → Type 0
 IsSummary m bytes before None = (after_separators (m.span before).start bytes ≡ []) × m.is_of before bytes
 IsSummary m bytes before (Some v) = m.is_of before (before_separator bytes) × IsMarked m (m.depth before) (after_separators (m.span before).start bytes) v

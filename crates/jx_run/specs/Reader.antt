@@ -1,4 +1,4 @@
--- What a contract sees of a reader of a text from its start.
+-- A reader of a text from its start as contracts see it.
 use Rattle.std.specs.Prelude.{◌≡◌, ◌==◌, ℕ, ◌+◌, List, length, drop, Option, Some, None, Bool, true, false, if◌then◌else◌}
 use Rattle.jx_run.specs.declared.texts.settings.FrontMark.{FrontMark}
 use Rattle.jx_run.specs.declared.texts.settings.FrontMark.TheVariants as on_mark
@@ -7,15 +7,15 @@ use Rattle.jx_run.specs.Front.{agreed}
 use Rattle.jx_run.specs.Reading.{TextReading, went, stopped, too_deep, read_text}
 use Rattle.jx_run.specs.Settings.{byte_order_mark}
 
--- what the bytes of a text come to, with what may stand in front of it
+-- what the bytes of a text lead to, with what may stand in front of it
 pub data Outcome : Type 0 where
   -- they are so many bytes, fewer than three, that begin a byte order mark, which may yet be ignored
   in_front : ℕ → Outcome
-  -- what the bytes behind the front come to
+  -- what the bytes after the front lead to
   reads : TextReading → Outcome
 
--- where the bytes, which stand from an offset on, begin with so many of a byte order mark's: a mark is skipped, and one that
--- was begun and not ended is a fault
+-- where the bytes, which stand from an offset on, begin with so many of a byte order mark's: a token is skipped, and
+-- one that was begun and not ended is a fault
 abbrev pub read_behind : ℕ → ℕ → ℕ → List ℕ → Outcome
 read_behind n limit start bytes =
     if n == 3 then reads (read_text limit (start + 3) (drop 3 bytes))
@@ -28,12 +28,12 @@ read_by on_mark.Refused limit start bytes = reads (read_text limit start bytes)
 read_by on_mark.Ignored limit start bytes = read_behind (agreed bytes byte_order_mark) limit start bytes
 
 pub record ReaderValue : Type 0 where
-  -- its names are of no account
+  -- its names are ignored
   pub settings : Settings
   -- the offset of the first byte, and how many bytes were read
   pub start : ℕ
   pub count : ℕ
-  -- none where memory was refused
+  -- none when out of memory
   pub outcome : Option Outcome
 
 -- these are the bytes that it has read since it began
@@ -41,7 +41,7 @@ pub record HasRead (bytes : List ℕ) (reader : ReaderValue) : Type 0 where
   pub count : reader.count ≡ length bytes
   pub outcome : reader.outcome ≡ Some (read_by reader.settings.mark reader.settings.depth reader.start bytes)
 
--- memory was refused, and every slice will be
+-- out of memory: every further slice fails
 abbrev pub HasFailed : ReaderValue → Type 0
 HasFailed reader = reader.outcome ≡ None
 
@@ -51,7 +51,7 @@ pub record IsInFront (reader : ReaderValue) : Type 0 where
   pub bytes : ℕ
   pub outcome : reader.outcome ≡ Some (in_front bytes)
 
--- a fault was met, and no byte behind it changes the verdict
+-- a fault was met, and no byte after it changes the verdict
 abbrev pub is_fault : Option Outcome → Bool
 is_fault (Some (in_front n)) = false
 is_fault (Some (reads (went s e o))) = false

@@ -35,19 +35,19 @@ IsCut (Stopped at) = Unit {0}
 IsCut (TooDeep at) = Unit {0}
 IsCut Failed = Unit {0}
 
--- the stack has read some marks within the depth
+-- the stack has read some tokens within the depth
 pub record HasMarks (depth : ℕ) (stack : Known) : Type 0 where
   pub depth_is : stack.depth ≡ depth
   pub marks : List Mark
   pub read : HasRead marks stack
 
--- a mark is ignored, and the stack has read none
+-- a byte order mark is ignored, and the stack has read none
 pub record IsFresh (mark : FrontMark) (depth : ℕ) (stack : Known) : Type 0 where
   pub ignored : mark ≡ Ignored
   pub depth_is : stack.depth ≡ depth
   pub read : HasRead [] stack
 
--- unless memory was refused, the stack is of use; it has met no fault while the reading goes on
+-- unless out of memory, the stack is of use; it has met no fault while the reading goes on
 abbrev pub IsOfUse : Progress → FrontMark → ℕ → Known → Type 0
 IsOfUse (Front n) mark depth stack = IsFresh mark depth stack
 IsOfUse (Going s) mark depth stack = HasMarks depth stack × (IsFault stack.reading → ⊥)
@@ -69,7 +69,7 @@ pub record IsLawful (a : Inside) : Type 0 where
 abbrev pub offset_at : ℕ → ℕ → ℕ
 offset_at base at = min (base + at) (2 ^ 64 - 1)
 
--- where a scan of a slice came to
+-- where a scan of a slice led
 abbrev pub settled : ℕ → Option LexExit → Whole → Progress
 settled base x (whole.Stopped at) = Stopped (offset_at base at)
 settled base x (whole.TooDeep at) = TooDeep (offset_at base at)
@@ -89,7 +89,7 @@ IsLow base (TextReading.went s expect holders) = Unit {0}
 IsLow base (stopped at) = base + at < 2 ^ 64
 IsLow base (too_deep at) = base + at < 2 ^ 64
 
--- the reading of a slice, whose offsets count from its start, goes on behind the stack's reading
+-- the reading of a slice, whose offsets count from its start, goes on after the stack's reading
 pub record GoesOn (old : Known) (track : lexical.Track) (read : Reading) (base : ℕ) (progress : Progress) (new : Known) : Type 0 where
   pub of_use : (mark : FrontMark) → IsOfUse progress mark old.depth new
   pub outcome : IsLow base (at_exit track.exit read) → outcome_at progress new.reading ≡ Some (reads (shifted base (at_exit track.exit read)))

@@ -1,4 +1,5 @@
--- The plain reading of bytes from a known configuration: the lexical machine, and at each of its marks the table of moves.
+-- The plain reading of bytes from a known configuration: the lexical machine, and at each of its tokens the table of
+-- moves.
 use Rattle.std.specs.Prelude.{ℕ, List, [], Bool, true, false}
 use Rattle.jx_lex.specs.declared.alphabet.state.LexState.{LexState}
 use Rattle.jx_lex.specs.declared.alphabet.state.LexState.TheVariants as state
@@ -8,20 +9,20 @@ use Rattle.jx_reduce.specs.declared.table.expect.Expect.TheVariants.{Value}
 use Rattle.jx_reduce.specs.declared.table.holder.Holder.{Holder}
 use Rattle.jx_reduce.specs.Read.{Reading, read as read_marks}
 
--- what reading comes to: the configuration at the end, with the open containers innermost first, or the first fault; it is
--- one of depth where a container would be opened while as many as the depth are open
+-- what reading leads to: the configuration at the end, with the open containers innermost first, or the first fault; it
+-- is one of depth where a container would be opened while as many as the depth are open
 pub data TextReading : Type 0 where
   went : LexState → Expect → List Holder → TextReading
   stopped : ℕ → TextReading
   too_deep : ℕ → TextReading
 
--- reading goes on where it came to; a fault ends it
+-- reading goes on where it led to; a fault ends it
 abbrev pub and_then : TextReading → (LexState → Expect → List Holder → TextReading) → TextReading
 and_then (went s e o) more = more s e o
 and_then (stopped at) more = stopped at
 and_then (too_deep at) more = too_deep at
 
--- a fault of the lexical machine comes after its marks
+-- a fault of the lexical machine comes after its tokens
 abbrev pub at_exit : LexExit → Reading → TextReading
 at_exit (LexExit.state s) (Reading.went expect holders) = went s expect holders
 at_exit (LexExit.fault at) (Reading.went expect holders) = stopped at

@@ -1,4 +1,4 @@
--- What a contract sees of a run over part of a JSON text sequence, and what it means that a run is the summary of bytes.
+-- A run over part of a JSON text sequence as contracts see it, and when a run is the summary of bytes.
 use Rattle.std.specs.Prelude.{◌≡◌, ℕ, List, [], ◌∷◌, ◌++◌, Option, None, Some, map, nat_lt, if◌then◌else◌}
 use Rattle.jx_summary.specs.declared.span.Span.{Span}
 use Rattle.jx_run.specs.Elements.{Part}
@@ -6,7 +6,7 @@ use Rattle.jx_run.specs.Parted as parted
 use Rattle.jx_run.specs.Started.{StartedValue, IsStarted}
 use Rattle.jx_run.specs.TextRun.{TextRunValue, IsTextRun, text_span}
 
--- pieces are text runs, and of a finished part its reading is kept
+-- parts are text runs, and of a finished part its reading is kept
 abbrev pub MarkedValue : Type 0
 MarkedValue = parted.MarkedValue TextRunValue StartedValue
 

@@ -15,7 +15,7 @@ use Rattle.jx_run.specs.Unclosed.{ends_open}
 abbrev pub HasNoSeparator : List ℕ → Type 0
 HasNoSeparator bytes = before_separator bytes ≡ bytes
 
--- nothing stands before the first separator
+-- nothing is before the first separator
 abbrev pub StartsWithSeparator : List ℕ → Type 0
 StartsWithSeparator bytes = before_separator bytes ≡ []
 
@@ -23,8 +23,8 @@ StartsWithSeparator bytes = before_separator bytes ≡ []
 abbrev pub EndsWithSeparator : List ℕ → Type 0
 EndsWithSeparator bytes = (front : List ℕ) × (bytes ≡ front ++ 30 ∷ [])
 
--- what these bytes of a sequence come to: each element that a separator ends; of the one that goes on, what a reader has read
--- and whether its last byte is open
+-- what these bytes of a sequence lead to: each element that a separator ends; of the one that goes on, what a reader
+-- has read and whether its last byte is open
 pub record AreRead (limit : ℕ) (bytes : List ℕ) (judged : List JudgedElement) (reader : ReaderValue) (open_ended : Bool) : Type 0 where
   pub ended : List Part
   pub last : Part

@@ -1,4 +1,4 @@
--- What a run over part of a JSON text sequence shows.
+-- The shape of a run over part of a JSON text sequence.
 use Rattle.std.specs.Prelude.{None, Some}
 use Rattle.jx_run.specs.declared.runs.shape.Shape.{Shape}
 use Rattle.jx_run.specs.declared.runs.shape.Shape.TheVariants.{Plain, Marked}

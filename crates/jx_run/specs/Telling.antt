@@ -1,4 +1,4 @@
--- What a sink is told of the tokens of a slice, behind what was read of a text.
+-- The tokens of a slice that a sink is given, after a text was read up to the slice.
 use Rattle.std.specs.Prelude.{false, ◌≡◌, ◌==◌, ℕ, ◌+◌, ◌-◌, ◌≤◌, List, [], ◌∷◌, ◌++◌, drop, length, map, if◌then◌else◌}
 use Rattle.jx_lex.specs.declared.alphabet.mark.Mark.{Mark}
 use Rattle.jx_lex.specs.declared.alphabet.state.LexState.TheVariants.{Gap}
@@ -29,28 +29,28 @@ abbrev pub track_in_front : ℕ → ℕ → List ℕ → Track
 track_in_front before count slice =
     if count == 3 then lex Gap (3 - before) (drop (3 - before) slice) else (if count == 0 then lex Gap 0 slice else no_tokens)
 
--- behind what the bytes before it came to; behind a fault nothing is read
+-- after what the bytes before it led to; after a fault nothing is read
 abbrev pub track_of : Outcome → List ℕ → Track
 track_of (in_front n) slice = track_in_front n (n + agreed slice (drop n byte_order_mark)) slice
 track_of (reads (went s e o)) slice = lex s 0 slice
 track_of (reads (stopped at)) slice = no_tokens
 track_of (reads (too_deep at)) slice = no_tokens
 
--- what the marks before it came to
+-- the outcome of the tokens before it
 abbrev pub standing_of : Outcome → Reading
 standing_of (in_front n) = start
 standing_of (reads (went s e o)) = Reading.went e o
 standing_of (reads (stopped at)) = Reading.stopped at
 standing_of (reads (too_deep at)) = Reading.too_deep at
 
--- what a sink awaits behind what the bytes before came to; behind a fault it is told nothing
+-- what a sink awaits after what the bytes before led to; after a fault it is given nothing
 abbrev pub AwaitsBehind : Awaits → Outcome → Type 0
 AwaitsBehind awaits (in_front n) = awaits false
 AwaitsBehind awaits (reads (went s e o)) = awaits (in_token s)
 AwaitsBehind awaits (reads (stopped at)) = Unit {0}
 AwaitsBehind awaits (reads (too_deep at)) = Unit {0}
 
--- what no byte comes to
+-- the outcome of no byte
 abbrev pub at_start : FrontMark → Outcome
 at_start on_mark.Refused = reads (went Gap Value [])
 at_start on_mark.Ignored = in_front 0
@@ -59,7 +59,7 @@ at_start on_mark.Ignored = in_front 0
 abbrev pub tokens_by : FrontMark → List ℕ → Track
 tokens_by mark bytes = track_of (at_start mark) bytes
 
--- the same mark, so many bytes further on
+-- the same token, so many bytes further on
 abbrev pub moved_mark : ℕ → Mark → Mark
 moved_mark base m = record m { at = base + m.at }
 
@@ -69,7 +69,7 @@ moved_marks base marks = map (moved_mark base) marks
 abbrev pub moved_ends : ℕ → List ℕ → List ℕ
 moved_ends base ends = map (λ end. base + end) ends
 
--- a text by settings is one behind what stands in front, and its tokens are those of what stands there
+-- a text by settings is one after its front, and its tokens are those after the front
 pub record IsAcceptedFrom (settings : Settings) (bytes : List ℕ) : Type 0 where
   pub count : ℕ
   pub within : count ≤ length bytes
@@ -77,9 +77,10 @@ pub record IsAcceptedFrom (settings : Settings) (bytes : List ℕ) : Type 0 wher
   pub judged : Judged count (drop count bytes) settings.depth Accepted
   pub tokens : tokens_by settings.mark bytes ≡ lex Gap count (drop count bytes)
 
--- ---- how far a sink is told
+-- ---- how far a sink is given tokens
 
--- of these marks, behind a reading, a sink has seen those in front of the first that is a fault, and a beginning of the ends
+-- of these tokens, after a reading, a sink has seen those in front of the first that is a fault, and a beginning of the
+-- ends
 pub record SeesPast (old new : Seen) (depth : ℕ) (before : Reading) (marks : List Mark) (ends : List ℕ) : Type 0 where
   pub told : List Mark
   pub more : List Mark
@@ -88,9 +89,9 @@ pub record SeesPast (old new : Seen) (depth : ℕ) (before : Reading) (marks : L
   pub marks_are : marks ≡ told ++ more
   pub ends_are : ends ≡ told_ends ++ more_ends
   pub seen : Grows old new told told_ends
-  -- what was told is no fault
+  -- what was given is no fault
   pub past : (IsFault before → ⊥) → IsFault (read depth told before) → ⊥
-  -- the first mark that was not told is one
+  -- the first token that was not given is one
   pub next : (m : Mark) (rest : List Mark) → more ≡ m ∷ rest → IsFault (read depth (told ++ m ∷ []) before)
-  -- where none is one, all was told
+  -- where none is one, all was given
   pub all : (IsFault (read depth marks before) → ⊥) → (more ≡ []) × (more_ends ≡ [])

@@ -1,4 +1,4 @@
--- What a contract sees of a text run, and what it means that a run is the summary of bytes.
+-- A text run as contracts see it, and when a run is the summary of bytes.
 use Rattle.std.specs.Prelude.{◌≡◌, ℕ, ◌+◌, ◌≤◌, List, length}
 use Rattle.jx_lex.specs.declared.alphabet.state.LexState.{LexState}
 use Rattle.jx_summary.specs.declared.span.Span.{Span}
@@ -25,8 +25,9 @@ text_span run = span run.map.start run.map.end
 abbrev pub outcomes_of : TextRunValue → OutcomeRunValue
 outcomes_of run = record { depth = run.depth; start = run.map.start; end = run.map.end; transitions = run.transitions; structures = run.structures }
 
--- the run is the summary of these bytes: from each state the marks, the ends and the exit are those of the lexical machine,
--- and from each state, each expectation and every list of open containers within the depth the outcome is that of reading
+-- the run is the summary of these bytes: from each state the tokens, the ends and the exit are those of the lexical
+-- machine, and from each state, each expectation and every list of open containers within the depth the outcome is that
+-- of reading
 pub record IsTextRun (bytes : List ℕ) (run : TextRunValue) : Type 0 where
   pub long : run.map.end ≡ run.map.start + length bytes
   pub tracks : (s : LexState) → track run.map s ≡ lex s run.map.start bytes

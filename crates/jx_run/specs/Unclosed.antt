@@ -30,7 +30,7 @@ pub record IsAccepted (p : Part) (limit : ℕ) (tree : Tree) : Type 0 where
   pub judged : Judged p.at p.bytes limit Accepted
   pub is_text : IsDocument p.at p.bytes limit tree
 
--- no blank (RFC 8259, section 2), and no byte that ends a string or a container
+-- no white space (RFC 8259, section 2), and no byte that ends a string or a container
 abbrev pub is_open : ℕ → Bool
 is_open byte =
     if byte == 0x20 then false else

@@ -13,7 +13,7 @@ pub record IsLongestBeginning (bytes : List ℕ) (limit k : ℕ) : Type 0 where
   pub begins : Begins (take k bytes) limit
   pub greatest : (n : ℕ) → k < n → n ≤ length bytes → Begins (take n bytes) limit → ⊥
 
--- the bytes are no text within the depth
+-- the bytes are not a text within the depth
 abbrev pub IsNoText : ℕ → List ℕ → ℕ → Type 0
 IsNoText start bytes limit = (tree : Tree) → IsDocument start bytes limit tree → ⊥
 
@@ -26,6 +26,6 @@ pub data Judged (start : ℕ) (bytes : List ℕ) (limit : ℕ) : Verdict → Typ
   -- with the next byte they begin a deeper text
   too_deep : {k e : ℕ} → IsNoText start bytes limit → IsLongestBeginning bytes limit k → k < length bytes
       → Begins (take (suc k) bytes) e → Judged start bytes limit (Refused (TooDeep (start + k)))
-  -- with the next byte they begin no text
+  -- with the next byte, no text begins with them
   stopped : {k : ℕ} → IsNoText start bytes limit → IsLongestBeginning bytes limit k → k < length bytes
       → ((e : ℕ) → Begins (take (suc k) bytes) e → ⊥) → Judged start bytes limit (Refused (Stopped (start + k)))

@@ -1,4 +1,4 @@
--- The verdict on a whole text, from what its marks come to with no container open at the start.
+-- The verdict on a whole text, from what its tokens lead to with no container open at the start.
 use Rattle.std.specs.Prelude.{ℕ, [], Bool, false, ◌==◌, if◌then◌else◌}
 use Rattle.jx_lex.specs.declared.alphabet.lex_exit.LexExit.{LexExit}
 use Rattle.jx_lex.specs.declared.alphabet.lex_exit.LexExit.TheVariants as exit

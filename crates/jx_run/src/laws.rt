@@ -30,8 +30,8 @@ use jx_lex::tokens_are_read;
 /// The plain reading is the grammar (RFC 8259, section 2). It meets no fault exactly on beginnings of texts and accepts
 /// exactly the texts. Its first fault lies just past the longest beginning of a text.
 ///
-/// The fault is one of depth exactly where the bytes up to and with it begin a deeper text. So what the reading comes to
-/// is the verdict that the grammar gives, also where a byte order mark in front of the text is ignored.
+/// The fault is one of depth exactly where the bytes up to and with it begin a deeper text. So what the reading leads
+/// to is the verdict that the grammar gives, also where a byte order mark in front of the text is ignored.
 pub fn reader_is_grammar()
     ensures begins { (limit at : ℕ) (bytes : List ℕ) → MeetsNoFault limit at bytes ↔ Begins bytes limit }
     ensures sound { (limit at : ℕ) (bytes : List ℕ) → Accepts limit at bytes → (tree : Tree) × IsDocument at bytes limit tree }
@@ -56,14 +56,14 @@ pub fn verdict_is_one()
     ensures one_verdict { (at limit : ℕ) (bytes : List ℕ) (x y : Verdict) → Judged at bytes limit x → Judged at bytes limit y → x ≡ y }
 {}
 
-/// What begins a text can be completed to one by bytes, wherever it stands.
+/// The beginning of a text can be completed to a text by bytes, wherever it is.
 pub fn beginnings_are_completed_by_bytes()
     ensures completed { (at limit : ℕ) (bytes : List ℕ) → Begins bytes limit → (more : List ℕ) × (tree : Tree) × All (λ b. b < 256) more × IsDocument at (bytes ++ more) limit tree }
 {
     tokens_are_read();
 }
 
-/// A value that stands in a text from `i` up to `j` has the span `i..j`. What is left behind it is what stands in the
+/// A value that stands in a text from `i` up to `j` has the span `i..j`. What is left after it is what stands in the
 /// text from `j` on.
 pub fn values_fill_their_spans()
     ensures span { (text : List ℕ) (i j : ℕ) (rest : List ℕ) (tree : Tree) → Value i (drop i text) j rest tree → span_of tree ≡ span i j }
@@ -91,8 +91,8 @@ pub fn a_refused_mark_changes_nothing()
     tokens_are_read();
 }
 
-/// What stands in front of a text decides where the verdict by settings begins, or refuses the text. Its first three bytes
-/// decide what that is.
+/// The bytes in front of a text decide where the verdict by settings begins, or refuse the text. The first three bytes
+/// decide which.
 pub fn fronts_decide_where_texts_begin()
     ensures told { (mark : FrontMark) (text : List ℕ) → IsTold mark text (front_of mark text) }
     ensures stays { (mark : FrontMark) (text more : List ℕ) → 3 ≤ length text → front_of mark (text ++ more) ≡ front_of mark text }
@@ -100,14 +100,14 @@ pub fn fronts_decide_where_texts_begin()
     tokens_are_read();
 }
 
-/// A stack that met a fault wants no more: no byte behind it changes what the marks have come to.
+/// A stack that met a fault wants no more: no byte after it changes what the tokens have led to.
 pub fn readings_go_on()
     ensures done { (stack : Known) → IsFault stack.reading → WantsNoMore (λ marks ends. HasSeen marks ends stack) }
 {}
 
 /// How a text sequence is read part by part, cut at some of its record separators (RFC 7464, section 2).
 ///
-/// Bytes without a separator go on with the open element. Where it ends, it comes behind those that ended. Bytes that
+/// Bytes without a separator go on with the open element. Where it ends, it comes after those that ended. Bytes that
 /// begin and end with a separator bring their own elements, and a new one that has no byte yet.
 pub fn sequences_are_read_part_by_part()
     ensures begun { (limit : ℕ) (reader : ReaderValue) → reader.settings.depth ≡ limit → reader.settings.mark ≡ Refused → reader.start ≡ 0 → HasReadText [] reader

@@ -1,4 +1,4 @@
-// What reading a part of a text or of a sequence comes to.
+// Partial results ("runs") of parts of a text or of a sequence.
 pub(crate) mod elements_run;
 pub(crate) mod joins;
 pub(crate) mod marked;

@@ -1,4 +1,4 @@
-// What a text is, by settings, and the verdict on one.
+// Texts by settings, and the verdict on one.
 pub(crate) mod byte_order_mark;
 pub(crate) mod settings;
 pub(crate) mod verdict;

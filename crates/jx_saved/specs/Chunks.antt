@@ -34,7 +34,7 @@ pub record IsCount (size long n : ℕ) : Type 0 where
 abbrev pub IsChunkSize : ℕ → Type 0
 IsChunkSize n = (64 ≤ n) × (n ≤ 1048576) × IsTrue (is_power_of_two n)
 
--- the lexical state behind what was read; in front of a text it is that between tokens
+-- the lexical state after what was read; in front of a text it is that between tokens
 abbrev pub state_behind : Outcome → LexState
 state_behind (in_front n) = Gap
 state_behind (reads (went s e o)) = s
@@ -48,7 +48,7 @@ expect_behind (reads (went s e o)) = e
 expect_behind (reads (stopped at)) = Value
 expect_behind (reads (too_deep at)) = Value
 
--- the entry of a chunk, by what the bytes before it come to: its tokens are those that are read from there
+-- the entry of a chunk, by what the bytes before it lead to: its tokens are those that are read from there
 abbrev pub entry_behind : Outcome → List ℕ → Entry
 entry_behind before chunk = record {
   state = state_behind before;
@@ -59,7 +59,7 @@ entry_behind before chunk = record {
   digest = xxh64 chunk;
 }
 
--- what the first bytes of a text come to, so many
+-- what the first bytes of a text lead to, so many
 abbrev pub before : Settings → List ℕ → ℕ → Outcome
 before settings text count = read_by settings.mark settings.depth 0 (take count text)
 

@@ -64,14 +64,14 @@ lanes_after bytes (suc n) = with_stripe bytes (32 * n) (lanes_after bytes n)
 abbrev pub merged : ℕ → ℕ → ℕ
 merged hash lane = add (mul (bit_xor hash (round 0 lane)) prime_1) prime_4
 
--- what the lanes come to
+-- the digest of the lanes
 abbrev pub of_lanes : Lanes → ℕ
 of_lanes l =
     merged (merged (merged (merged
     (add (add (add (rotate_left w64 l.first 1) (rotate_left w64 l.second 7)) (rotate_left w64 l.third 12)) (rotate_left w64 l.fourth 18))
     l.first) l.second) l.third) l.fourth
 
--- what all whole blocks come to
+-- the digest of all whole blocks
 abbrev pub started : List ℕ → ℕ
 started bytes = if nat_lt (length bytes) 32 then prime_5 else of_lanes (lanes_after bytes (length bytes / 32))
 
@@ -91,7 +91,7 @@ unfoldable pub words_after : List ℕ → ℕ → ℕ → ℕ → ℕ
 words_after bytes at hash zero = hash
 words_after bytes at hash (suc n) = with_word (words_after bytes at hash n) (word_at bytes (at + 8 * n))
 
--- four bytes behind the last word, where so many are left
+-- four bytes after the last word, where so many are left
 abbrev pub half_after : List ℕ → ℕ → ℕ
 half_after bytes hash = if nat_lt (length bytes % 8) 4 then hash else with_half hash (half_at bytes (length bytes / 8 * 8))
 

@@ -41,7 +41,7 @@ pub record AreAll (settings : Settings) (size : ℕ) (bytes : List ℕ) (h : Hel
   pub entered : IsEntered settings size bytes h
   pub counted : IsCount size (length bytes) (length h.entries)
 
--- these bytes are those of whole chunks and of a part of another, which is held
+-- these bytes are those of whole chunks and of a part of another, which is kept
 pub record AreHeld (settings : Settings) (size : ℕ) (bytes : List ℕ) (h : HeldValue) (part : List ℕ) : Type 0 where
   pub before : List ℕ
   pub bytes_are : bytes ≡ before ++ part

@@ -26,7 +26,7 @@ abbrev pub expect_of : List Entry → Expect
 expect_of [] = Value
 expect_of (e ∷ es) = e.expect
 
--- the entry of neighbours: that of all their bytes, but with the digest of their entries as they are spelt
+-- the entry of neighbours: that of all their bytes, but with the digest of their entries as they are written
 abbrev pub joined_entry : List Entry → Entry
 joined_entry es = record {
   state = state_of es;

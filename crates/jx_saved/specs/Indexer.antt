@@ -14,6 +14,6 @@ pub record HasFed (settings : Settings) (chunk : ℕ) (bytes : List ℕ) (i : In
   pub kept_is : i.held ≡ Some kept
   pub held : AreHeld settings chunk bytes kept i.part.items
 
--- memory was refused, and every slice will be
+-- out of memory: every further slice fails
 abbrev pub IsLost : Indexer → Type 0
 IsLost i = i.held ≡ None

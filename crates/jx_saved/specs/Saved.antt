@@ -1,4 +1,4 @@
--- Which indexes have bytes that tell all of them, and why bytes are those of none.
+-- The bytes of indexes, and why other bytes are not those of an index.
 use Rattle.std.specs.Prelude.{◌≡◌, ◌≢◌, ℕ, ◌+◌, ◌<◌, ◌≤◌, ◌^◌, List, length, take}
 use Rattle.std.specs.List.{AllByRecursion}
 use Rattle.jx_saved.specs.declared.decoding.SavedFault.{SavedFault}

@@ -15,7 +15,7 @@ use Rattle.jx_saved.specs.Digest.{xxh64}
 
 -- ---- an entry: 24 bytes
 
--- 1 where a mark begins, and 2 more where an end shows
+-- 1 where a token start begins, and 2 more where an end shows
 abbrev pub flags : Bool → Bool → ℕ
 flags false false = 0
 flags true false = 1
@@ -31,7 +31,7 @@ expect_number expect.Name = 3
 expect_number expect.Colon = 4
 expect_number expect.After = 5
 
--- what one byte each tells, the last of nothing yet
+-- the choices that one byte each encodes, the last of nothing yet
 abbrev pub spelt_choices : Entry → List ℕ
 spelt_choices e = ordinal e.state ∷ expect_number e.expect ∷ flags e.begins e.ends ∷ 0 ∷ []
 
@@ -67,6 +67,6 @@ spelt_front i =
     ++ (to_le_bytes w32 0
     ++ spelt_entry i.top)))))
 
--- the head, and behind it the entries of the levels below the top
+-- the head, and after it the entries of the levels below the top
 abbrev pub spelt_index : Index → List ℕ
 spelt_index i = (spelt_front i ++ to_le_bytes w64 (xxh64 (spelt_front i))) ++ flat_map spelt_entry i.entries.items

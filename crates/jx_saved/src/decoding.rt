@@ -33,7 +33,7 @@ use thiserror::Error;
 /// Why bytes are not read as an index: the first fault from left to right.
 #[derive(Debug, Drop, Error)]
 pub enum SavedFault {
-    /// Memory is refused, or entries have counts too large to be joined; nothing else is said of the bytes.
+    /// Out of memory, or entries have counts too large to be joined; nothing else is said of the bytes.
     #[error("out of memory")]
     Memory,
     /// They do not begin as an index does.
@@ -48,10 +48,10 @@ pub enum SavedFault {
     /// The digest of the head, or of a block of entries, is that of other bytes; or a level is not that of the one below.
     #[error("damaged")]
     Damaged,
-    /// A field is none that an index has.
+    /// No index has this field.
     #[error("malformed")]
     Malformed,
-    /// They go on behind the last entry.
+    /// They go on after the last entry.
     #[error("more bytes than an index has")]
     Longer,
 }
@@ -80,7 +80,7 @@ const FRONT: usize = 56;
 /// How many bytes an entry has.
 const ENTRY: usize = 24;
 
-/// What the head says.
+/// The contents of the head.
 #[derive(Clone, Copy)]
 struct Head {
     settings: Settings,
@@ -101,7 +101,7 @@ fn state_of(place: u8) -> LexState
     }
 }
 
-/// What may stand next, by its place, or a value.
+/// The expectation at this place of the list, or a value.
 fn expect_of(place: u8) -> Expect
     ensures { (e : Expect) → place ≡ expect_number e → result ≡ e }
 {
@@ -115,7 +115,7 @@ fn expect_of(place: u8) -> Expect
     }
 }
 
-/// Whether a mark begins, and whether an end shows.
+/// Whether a token start begins, and whether an end shows.
 fn flags_of(number: u8) -> (bool, bool)
     ensures { (begins ends : Bool) → number ≡ flags begins ends → (result.0 ≡ begins) × (result.1 ≡ ends) }
 {
@@ -127,7 +127,7 @@ fn flags_of(number: u8) -> (bool, bool)
     }
 }
 
-/// What becomes of a byte order mark, and which names objects may have.
+/// Whether a byte order mark is ignored, and which names objects may have.
 fn rules_of(number: u64) -> (FrontMark, NameRule)
     ensures { (mark : FrontMark) (names : NameRule) → number ≡ front_flags mark names → (result.0 ≡ mark) × (result.1 ≡ names) }
 {
@@ -147,7 +147,7 @@ fn pair_at(bytes: &[u8], at: usize) -> u16
     u16::from_le_bytes([bytes[at], bytes[at + 1]])
 }
 
-/// The entry that these bytes spell, if they spell one.
+/// The entry that these bytes encode, if they encode one.
 fn entry_of(bytes: &[u8]) -> Entry
     requires { length bytes.now ≡ 24 }
     ensures { (e : Entry) → FitsEntry e → bytes.now ≡ spelt_entry e → result ≡ e }
@@ -167,7 +167,7 @@ fn entry_of(bytes: &[u8]) -> Entry
     }
 }
 
-/// The entries that these bytes spell, if they spell so many.
+/// The entries that these bytes encode, if they encode so many.
 fn entries_of(alloc: Global, bytes: &[u8], count: usize) -> Result<Vec<Entry>, AllocError>
     requires { length bytes.now ≡ 24 * count }
     ensures count { IfOk result (λ entries. length entries.items ≡ count) }
@@ -214,7 +214,7 @@ fn is_sealed(bytes: &[u8]) -> bool
     digest_of(&bytes[0..FRONT]) == word_at(bytes, FRONT)
 }
 
-/// What a head says, if it is one.
+/// The contents of a head, if it is one.
 fn head_of(bytes: &[u8]) -> Option<Head>
     requires { 64 ≤ length bytes.now }
     ensures some { IfSome result (λ h. 0 < h.size) }
@@ -235,7 +235,7 @@ fn head_of(bytes: &[u8]) -> Option<Head>
     })
 }
 
-/// What the head of an index says.
+/// The contents of the head of an index.
 fn head_from(bytes: &[u8]) -> Result<Head, SavedFault>
     ensures long { IfOk result (λ _. 64 ≤ length bytes.now) }
     ensures some { IfOk result (λ h. 0 < h.size) }
@@ -285,7 +285,7 @@ fn kept_of(chunks: usize) -> usize
     kept
 }
 
-/// The entries behind a head of an index that keeps so many.
+/// The entries after a head of an index that keeps so many.
 fn entries_behind(alloc: Global, rest: &[u8], kept: usize) -> Result<Vec<Entry>, SavedFault>
     ensures count { IfOk result (λ entries. length entries.items ≡ kept) }
     ensures reads { IfOk result (λ entries. (es : List Entry) → AllByRecursion FitsEntry es → rest.now ≡ flat_map spelt_entry es → entries.items ≡ es) }
@@ -301,7 +301,7 @@ fn entries_behind(alloc: Global, rest: &[u8], kept: usize) -> Result<Vec<Entry>,
     Ok(entries_of(alloc, rest, kept)?)
 }
 
-/// The index with this head whose entries stand behind it.
+/// The index with this head whose entries follow it.
 fn index_behind(alloc: Global, bytes: &[u8], head: Head) -> Result<Index, SavedFault>
     requires long { 64 ≤ length bytes.now }
     requires some { 0 < head.size }
@@ -330,7 +330,7 @@ fn is_same(one: &[u8], other: &[u8]) -> bool
     one == other
 }
 
-/// The index, if its bytes are these; else a fault is told.
+/// The index, if its bytes are these; else a fault is given.
 fn spelt_so(
     alloc: Global,
     index: Index,
@@ -394,10 +394,10 @@ impl Index {
         // Nothing else is read.
         ensures found { IfOk result (λ index. spelt_index index ≡ bytes.now) }
         ensures levels { IfOk result HasItsLevels }
-        // What is spelt so is read, unless memory runs out.
+        // What is written so is read, unless memory runs out.
         ensures reads { IfOk result (λ index. (i : Index) → IsSavable i → bytes.now ≡ spelt_index i → SaysSame index i) }
         ensures only { IfErr result (λ fault. (i : Index) → IsSavable i → bytes.now ≡ spelt_index i → IsMemory fault) }
-        // Which fault it is, as far as the first eight bytes tell.
+        // The fault follows from the first eight bytes, as far as they decide.
         ensures fault { IfErr result (SaysOf bytes.now) }
     {
         let head = head_from(bytes)?;

@@ -70,7 +70,7 @@ fn with_stripe(bytes: &[u8], at: usize, lanes: Lanes) -> Lanes
     }
 }
 
-/// The lanes behind so many blocks.
+/// The lanes after so many blocks.
 #[tactic(auto, unfolding(crate::specs::Digest::lanes_after))]
 fn lanes_after(bytes: &[u8], count: usize) -> Lanes
     requires { 32 * count ≤ length bytes.now }
@@ -97,7 +97,7 @@ fn merged(hash: u64, lane: u64) -> u64
         .wrapping_add(PRIME_4)
 }
 
-/// What the lanes come to.
+/// The digest of the lanes.
 fn of_lanes(lanes: Lanes) -> u64
     ensures { result ≡ of_lanes lanes }
 {
@@ -111,7 +111,7 @@ fn of_lanes(lanes: Lanes) -> u64
     merged(merged(hash, lanes.third), lanes.fourth)
 }
 
-/// What the blocks come to.
+/// The digest of the blocks.
 fn started(bytes: &[u8]) -> u64
     ensures { result ≡ started bytes.now }
 {
@@ -194,7 +194,7 @@ fn avalanche(hash: u64) -> u64
     hash ^ (hash >> 32)
 }
 
-/// The digest XXH64 of these bytes, with the seed 0. It tells changed bytes, and no forged ones.
+/// The digest XXH64 of these bytes, with the seed 0. It finds changed bytes, and no forged ones.
 #[tactic(auto, unfolding(crate::specs::Digest::xxh64))]
 pub fn digest_of(bytes: &[u8]) -> u64
     ensures { result ≡ xxh64 bytes.now }

@@ -1,10 +1,10 @@
-// What is saved beside a text.
+// The index that is saved beside a text.
 use crate::chunk_size::ChunkSize;
 use crate::entry::Entry;
 use jx_run::Settings;
 
-/// An index of a text. It tells of each chunk where its reading begins, and of neighbours what their marks do to open
-/// containers.
+/// An index of a text. It has for each chunk where its reading begins, and for neighbours what their token starts do to
+/// open containers.
 #[derive(Debug, Drop)]
 pub struct Index {
     /// By which the text is one.

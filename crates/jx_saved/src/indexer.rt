@@ -22,9 +22,9 @@ pub struct Indexer {
     alloc: Global,
     settings: Settings,
     chunk: ChunkSize,
-    /// None where memory was refused.
+    /// None when out of memory.
     held: Option<Held>,
-    /// What stands behind the whole chunks.
+    /// The bytes after the whole chunks.
     part: Vec<u8>,
 }
 
@@ -52,8 +52,8 @@ fn fill(part: &mut Vec<u8>, slice: &[u8], size: usize) -> Result<usize, AllocErr
     Ok(len)
 }
 
-/// Reads the part of a chunk that is held, with the bytes of a slice that make it whole. Where it is none, or is not made
-/// whole, no chunk is read.
+/// Reads the part of a chunk that is kept, with the bytes of a slice that make it whole. Where the part is empty, or is
+/// not made whole, no chunk is read.
 fn begin(held: Held, part: &mut Vec<u8>, slice: &[u8], size: usize) -> Result<Begun, AllocError>
     requires some { 0 < size }
     ensures within { IfOk result (λ begun. begun.len ≤ length slice.now) }
@@ -73,7 +73,7 @@ fn begin(held: Held, part: &mut Vec<u8>, slice: &[u8], size: usize) -> Result<Be
     Ok(Begun { held, len })
 }
 
-/// Reads a slice behind all bytes that were fed.
+/// Reads a slice after all bytes that were fed.
 fn feed_held(held: Held, part: &mut Vec<u8>, slice: &[u8], size: usize) -> Result<Held, AllocError>
     requires some { 0 < size }
     ensures { IfOk result (λ next. (settings : Settings) (bytes : List ℕ) → AreHeld settings size bytes held part.old.items
@@ -86,7 +86,7 @@ fn feed_held(held: Held, part: &mut Vec<u8>, slice: &[u8], size: usize) -> Resul
     Ok(added.held)
 }
 
-/// Reads the last chunk, where the part that is held has a byte.
+/// Reads the last chunk, where the part that is kept has a byte.
 fn all_of(held: Held, part: &[u8]) -> Result<Held, AllocError>
     ensures { IfOk result (λ all. (settings : Settings) (size : ℕ) (bytes : List ℕ) → AreHeld settings size bytes held part.now → AreAll settings size bytes all) }
 {
@@ -123,7 +123,7 @@ fn index_of(
     }
 }
 
-/// What the chunks of a whole text come to.
+/// The outcome of the chunks of a whole text.
 fn outcome_of(
     alloc: Global,
     settings: &Settings,
@@ -164,8 +164,8 @@ impl Indexer {
         }
     }
 
-    /// Reads the slice behind all bytes that it was fed. Behind a fault no byte is looked at. Only want of memory is refused,
-    /// and more than 2 ^ 64 - 1 bytes; from then on every slice is.
+    /// Reads the slice after all bytes that it was fed. After a fault no byte is looked at. Fails only when out of
+    /// memory, and more than 2 ^ 64 - 1 bytes; from then on every slice is.
     pub fn feed(&mut self, slice: &[u8]) -> Result<(), AllocError>
         ensures fed { OnOk result ((settings : Settings) (chunk : ℕ) (bytes : List ℕ) → HasFed settings chunk bytes self.old → HasFed settings chunk (bytes ++ slice.now) self.new) }
         ensures err { OnErr result (IsLost self.new) }
@@ -179,8 +179,8 @@ impl Indexer {
         Ok(())
     }
 
-    /// What all bytes that it was fed come to: the index of the text that they are, or why they are none, whatever names
-    /// their objects have. `Err` where memory is or was refused.
+    /// The index of the text that all bytes fed to it make, or why they are not a text, whatever names their
+    /// objects have. `Err` when out of memory, now or before.
     pub fn finish(self) -> Result<Result<Index, Refusal>, AllocError>
         ensures index { IfOk result (λ read. IfOk read (λ index. (settings : Settings) (chunk : ℕ) (bytes : List ℕ) → HasFed settings chunk bytes self
             → IsIndexOf settings chunk bytes index)) }

@@ -7,7 +7,7 @@ ghost use Rattle.jx_saved.specs.Index.{IsIndexOf};
 ghost use Rattle.jx_saved.specs.Saved.{HasItsLevels};
 ghost use Rattle.jx_saved.specs.Sums.{joined, sum_of};
 
-/// The sum of marks that stand one behind another is joined of the sums of both lists.
+/// The sum of token starts that stand one after another is joined of the sums of both lists.
 pub fn sums_are_joined()
     ensures joined { (xs ys : List Mark) → sum_of (xs ++ ys) ≡ joined (sum_of xs) (sum_of ys) }
 {}

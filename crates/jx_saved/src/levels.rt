@@ -39,7 +39,7 @@ fn sum_of(block: &[Entry]) -> Option<Sum>
     Some(sum)
 }
 
-/// Whether a mark begins in one of them.
+/// Whether a token start begins in one of them.
 fn any_begins(block: &[Entry]) -> bool
     ensures { result ≡ list_any (λ e. e.begins) block.now }
 {
@@ -119,14 +119,14 @@ fn level_above(alloc: Global, level: &[Entry], count: usize) -> Result<Vec<Entry
     Ok(above)
 }
 
-/// What is kept of a level and those above it.
+/// The entries of a level and those above it.
 #[derive(Drop)]
 pub(crate) struct Levels {
     pub entries: Vec<Entry>,
     pub top: Entry,
 }
 
-/// What is kept of the lowest level and those above it; nothing where it has no entry.
+/// The entries of the lowest level and those above it; nothing where it has no entry.
 pub(crate) fn levels_of(alloc: Global, lowest: Vec<Entry>) -> Result<Option<Levels>, AllocError>
     ensures levels { IfOk result (λ levels. IfSome levels (λ l. AreLevels lowest.items l.entries.items l.top)) }
     ensures none { IfOk result (λ levels. IfNone levels (length lowest.items ≡ 0)) }

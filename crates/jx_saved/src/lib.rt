@@ -1,5 +1,5 @@
-//! An index of a text that is saved beside it: of each chunk of the text where its reading begins, and what its marks do
-//! to open containers.
+//! An index of a text that is saved beside it: of each chunk of the text where its reading begins, and what its token
+//! starts do to open containers.
 #![tactic(auto)]
 
 mod chunk_size;

@@ -1,4 +1,4 @@
-// A chunk that is read behind all bytes before it, with what its tokens come to.
+// A chunk that is read after all bytes before it, with the outcome of its tokens.
 ghost use Rattle.std.specs.Prelude.{◌≡◌, ◌+◌, ◌<◌, ◌≤◌, ◌^◌, ◌++◌, [], ℕ, List, Some, drop, false, length, slice_range, IfOk};
 ghost use Rattle.jx_lex.specs.declared.alphabet.mark.Mark.{Mark};
 ghost use Rattle.jx_lex.specs.Lex.{lex};
@@ -27,7 +27,7 @@ use std::marker::Brand;
 /// U+FEFF in UTF-8.
 const BYTE_ORDER_MARK: [u8; 3] = [0xEF, 0xBB, 0xBF];
 
-/// How far a reading came behind a slice, its stack, and what the slice's tokens came to.
+/// How far a reading came after a slice, its stack, and what the slice's tokens led to.
 #[derive(Drop)]
 struct Told {
     progress: Progress,
@@ -37,7 +37,7 @@ struct Told {
     ends: bool,
 }
 
-/// Where a scan came to, over a slice that stands from `base` on.
+/// Where a scan over a slice that stands from `base` on has led.
 fn settled(base: usize, exit: Option<LexExit>, whole: Whole) -> Progress
     ensures value { result ≡ settled base exit whole }
     ensures cut { IsCut result }
@@ -99,7 +99,7 @@ fn tell_slice<E: Earlier>(
     })
 }
 
-/// Nothing was told.
+/// Nothing was given.
 fn untold(progress: Progress, stack: KnownStack) -> Told
     ensures progress { result.progress ≡ progress }
     ensures stack { result.stack ≡ stack }
@@ -114,7 +114,7 @@ fn untold(progress: Progress, stack: KnownStack) -> Told
     }
 }
 
-/// Reads a slice behind so many bytes of a byte order mark.
+/// Reads a slice after so many bytes of a byte order mark.
 #[cold]
 fn tell_front(
     stack: KnownStack,
@@ -147,7 +147,7 @@ fn tell_front(
     Ok(untold(Progress::Stopped(base + more), stack))
 }
 
-/// Reads a slice behind all bytes that were read; it stands from `base` on. Behind a fault no byte is looked at.
+/// Reads a slice after all bytes that were read; it stands from `base` on. After a fault no byte is looked at.
 fn tell_on(
     stack: KnownStack,
     progress: Progress,
@@ -174,7 +174,7 @@ fn tell_on(
     }
 }
 
-/// The lexical state behind what was read, and what may stand next.
+/// The lexical state after what was read, and what may stand next.
 fn standing(progress: Progress, stack: &KnownStack) -> (LexState, Expect)
     ensures { (before : Outcome) → outcome_at progress stack.now.reading ≡ Some before → (result.0 ≡ state_behind before) × (result.1 ≡ expect_behind before) }
 {
@@ -184,7 +184,7 @@ fn standing(progress: Progress, stack: &KnownStack) -> (LexState, Expect)
     }
 }
 
-/// How far a reading came behind a chunk, its stack, and the chunk's entry.
+/// How far a reading came after a chunk, its stack, and the chunk's entry.
 #[derive(Drop)]
 pub(crate) struct ReadChunk {
     pub progress: Progress,
@@ -192,7 +192,7 @@ pub(crate) struct ReadChunk {
     pub entry: Entry,
 }
 
-/// Reads a chunk behind all bytes that were read; it stands from `base` on.
+/// Reads a chunk after all bytes that were read; it stands from `base` on.
 pub(crate) fn read_chunk(
     stack: KnownStack,
     progress: Progress,

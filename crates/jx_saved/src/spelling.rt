@@ -12,7 +12,7 @@ use jx_reduce::Expect;
 use jx_run::{FrontMark, NameRule, Settings};
 use std::alloc::{AllocError, Global};
 
-/// What the first bytes of an index say: it is one, of version 1.
+/// The first bytes of an index of version 1.
 pub(crate) const TAG: [u8; 8] = [0x89, 0x6A, 0x78, 0x69, 0x64, 0x78, 0x0A, 0x01];
 
 fn flags(begins: bool, ends: bool) -> u8
@@ -50,7 +50,7 @@ fn expect_number(expect: Expect) -> u8
     }
 }
 
-/// What one byte each tells of an entry.
+/// The choices of an entry that one byte each encodes.
 fn choices(entry: &Entry) -> [u8; 4]
     ensures { result ≡ spelt_choices entry.now }
 {
@@ -59,7 +59,7 @@ fn choices(entry: &Entry) -> [u8; 4]
     [state, expect, flags(entry.begins, entry.ends), 0]
 }
 
-/// Puts an entry behind these bytes.
+/// Puts an entry after these bytes.
 pub(crate) fn put_entry(entry: &Entry, out: &mut Vec<u8>) -> Result<(), AllocError>
     ensures { OnOk result (out.new.items ≡ out.old.items ++ spelt_entry entry.now) }
 {
@@ -71,7 +71,7 @@ pub(crate) fn put_entry(entry: &Entry, out: &mut Vec<u8>) -> Result<(), AllocErr
     Ok(())
 }
 
-/// Puts entries behind these bytes.
+/// Puts entries after these bytes.
 pub(crate) fn put_entries(entries: &[Entry], out: &mut Vec<u8>) -> Result<(), AllocError>
     ensures { OnOk result (out.new.items ≡ out.old.items ++ flat_map spelt_entry entries.now) }
 {
@@ -96,7 +96,7 @@ fn front_of(alloc: Global, index: &Index) -> Result<Vec<u8>, AllocError>
     Ok(bytes)
 }
 
-/// These bytes, and their digest behind them.
+/// These bytes, and their digest after them.
 fn sealed(front: Vec<u8>) -> Result<Vec<u8>, AllocError>
     ensures { IfOk result (λ bytes. bytes.items ≡ front.items ++ to_le_bytes w64 (xxh64 front.items)) }
 {
@@ -107,7 +107,7 @@ fn sealed(front: Vec<u8>) -> Result<Vec<u8>, AllocError>
 }
 
 impl Index {
-    /// Its bytes. It fails only for want of memory.
+    /// Its bytes. It fails only when out of memory.
     pub fn encode(&self, alloc: Global) -> Result<Vec<u8>, AllocError>
         ensures { IfOk result (λ bytes. bytes.items ≡ spelt_index self.now) }
     {

@@ -1,22 +1,22 @@
-// What the marks of a part of a text do to open containers.
+// The effect of the token starts of a part of a text on open containers.
 ghost use Rattle.std.specs.Prelude.{◌≡◌, SomeIff};
 ghost use Rattle.jx_saved.specs.Sums.{closing, at_comma, opening, Fits, joined, noted, nothing};
 
 use jx_lex::MarkKind;
 
-/// What the marks of a part of a text do to the containers that stand open, whichever these are.
+/// The effect of the token starts of a part of a text on the containers that are open, whichever these are.
 #[derive(Clone, Copy, Debug, PartialEq, Eq)]
 pub struct Sum {
     /// How many containers it closes that stood open before it.
     pub closed: u16,
-    /// How many containers that it opened stand open behind it.
+    /// How many containers that it opened stand open after it.
     pub opened: u16,
     /// How many of its commas stand in the innermost container where the fewest are open.
     pub commas: u64,
 }
 
 impl Sum {
-    /// The sum of no mark.
+    /// The sum of no token start.
     pub fn new() -> Sum
         ensures { result ≡ nothing }
     {
@@ -70,7 +70,7 @@ impl Sum {
         }
     }
 
-    /// The sum with one more mark of this kind behind it. There is none where a count is too large to be held.
+    /// The sum with one more token start of this kind after it. There is none where a count is too large to be held.
     #[inline(always)]
     pub fn step(self, kind: MarkKind) -> Option<Sum>
         ensures { SomeIff result (Fits (noted kind self)) (noted kind self) }
@@ -83,7 +83,7 @@ impl Sum {
         }
     }
 
-    /// The sum of both parts, one behind the other. There is none where a count is too large to be held.
+    /// The sum of both parts, one after the other. There is none where a count is too large to be held.
     pub fn join(self, right: Sum) -> Option<Sum>
         ensures { SomeIff result (Fits (joined self right)) (joined self right) }
     {

@@ -1,4 +1,4 @@
-// What the tokens of a chunk come to, beside the stack that knows all open containers.
+// The sum of the tokens of a chunk, beside the stack that knows all open containers.
 ghost use Rattle.std.specs.Prelude.{◌≡◌, [], false};
 ghost use Rattle.jx_saved.specs.inside.Tallied.{HasTallied};
 
@@ -21,7 +21,7 @@ impl Earlier for Brand {
     ghost stack = { record { depth = 0; reading = start } };
 }
 
-/// The sum of the marks of a chunk, and whether there were marks and ends.
+/// The sum of the token starts of a chunk, and whether there were token starts and ends.
 #[derive(Drop)]
 pub struct ChunkSum {
     pub sum: Sum,
@@ -65,7 +65,7 @@ impl TokenSink for ChunkSum {
     }
 }
 
-/// The known stack, and the sum of the marks behind an earlier one.
+/// The known stack, and the sum of the token starts after an earlier one.
 #[derive(Drop)]
 pub struct Tally<E> {
     pub stack: KnownStack,
@@ -74,7 +74,7 @@ pub struct Tally<E> {
 }
 
 impl<E: Earlier> Tally<E> {
-    /// Behind this stack no mark and no end was seen.
+    /// After this stack no token start and no end was seen.
     pub(crate) fn new(stack: KnownStack) -> Tally<E>
         requires { stack ≡ E.stack }
         ensures stack { result.stack ≡ stack }

@@ -1,4 +1,4 @@
--- What a report that saves an index does to the bytes of its ends.
+-- A report that saves an index, from a reader to two writers, by their bytes.
 use Rattle.std.specs.Prelude.{◌≡◌, ℕ, List, Option, Bool, false}
 use Rattle.std.specs.Io.KnownBytes.{Appends}
 use Rattle.jx_run.specs.declared.texts.settings.Settings.{Settings}
@@ -6,7 +6,8 @@ use Rattle.jx_ends.specs.declared.exit.Exit.{Exit}
 use Rattle.jx_ends.specs.Ends.{ReadsToEnd, AppendsBeginning}
 use Rattle.jx_saved_report.specs.Output.{IndexOutput}
 
--- the reader gave all that it had, the writer got the whole output for it, and what is told was told unless telling failed
+-- the reader gave all that it had, the writer got the whole output for it, and the report was written unless reporting
+-- failed
 pub record ReportsIndex (has_names : Bool) (settings : Settings) (chunk : ℕ) (unread left written grown : Option (List ℕ)) (is_lost : Bool) (told retold : Option (List ℕ)) (exit : Exit) : Type 0 where
   pub text : List ℕ
   pub output : List ℕ

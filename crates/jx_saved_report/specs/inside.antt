@@ -1,2 +1,2 @@
--- What the contracts of this crate's own functions cite, and no public one.
+-- Definitions that only the contracts of this crate's own functions cite.
 pub mod Saving

@@ -1,4 +1,4 @@
-// What the bytes of an input come to whose index is saved, and tables of its names where these are asked for.
+// The state of an input whose index is saved, with tables of its names where these are asked for.
 ghost use Rattle.std.specs.Prelude.{◌++◌, [], ℕ, Bool, List, IfOk, OnOk};
 ghost use Rattle.jx_run.specs.declared.texts.settings.Settings.{Settings};
 ghost use Rattle.jx_saved_report.specs.inside.Saving.{ComesToSaved, IsTextSavingOf};
@@ -9,7 +9,7 @@ use jx_saved::ChunkSize;
 use jx_saved_names::{NamesIfAsked, SavedText};
 use std::alloc::{AllocError, Global};
 
-/// What the bytes of an input that were read come to.
+/// The state of an input that is read.
 #[derive(Drop)]
 pub(crate) struct TextSaving {
     index: Saving,
@@ -27,7 +27,7 @@ impl TextSaving {
         }
     }
 
-    /// Reads a batch behind what was read. Memory is refused too where the last byte has no offset.
+    /// Reads a batch after what was read. It is also out of memory where the last byte has no offset.
     pub fn feed(&mut self, batch: &[u8]) -> Result<(), AllocError>
         ensures { OnOk result ((has_names : Bool) (settings : Settings) (chunk : ℕ) (bytes : List ℕ) → IsTextSavingOf has_names settings chunk bytes self.old
             → IsTextSavingOf has_names settings chunk (bytes ++ batch.now) self.new) }
@@ -36,7 +36,7 @@ impl TextSaving {
         self.names.feed(batch)
     }
 
-    /// What all bytes that were read come to: what is saved of the text that they are, or why they are none.
+    /// The index and tables of the text that all bytes read make, or why they are not a text.
     pub fn finish(self) -> Result<Result<SavedText, Refusal>, AllocError>
         ensures { IfOk result (λ read. (has_names : Bool) (settings : Settings) (chunk : ℕ) (bytes : List ℕ) → IsTextSavingOf has_names settings chunk bytes self
             → ComesToSaved has_names settings chunk bytes read) }

@@ -1,4 +1,4 @@
-// What is saved of what a reader has, which is read batch by batch.
+// The index of an input that is read batch by batch.
 ghost use Rattle.std.specs.Prelude.{◌≡◌, ◌≢◌, ◌≤◌, ◌↔◌, true, false, IfOk, IfErr, IsErrOf};
 ghost use Rattle.jx_ends.specs.declared.report_fault.ReportFault.TheVariants.{Read, Write};
 ghost use Rattle.jx_saved_report.specs.inside.Saving.{IsRead};
@@ -10,7 +10,7 @@ use jx_saved::ChunkSize;
 use jx_saved_names::SavedText;
 use std::alloc::Global;
 
-/// Reads to the end of input, so many bytes at a time, and answers what they come to.
+/// Reads to the end of input, so many bytes at a time, and answers their outcome.
 pub(crate) fn read_text<S: Source>(
     alloc: Global,
     reader: &mut S,

@@ -1,4 +1,4 @@
-// What is saved of an input is written, or it is told why nothing is.
+// Writes the index of an input, or reports why there is none.
 ghost use Rattle.std.specs.Prelude.{◌≡◌, ◌≢◌, ◌↔◌, ◌++◌, true, false, codes, IfOk, IfErr, IsErrOf, OnErr, OnOk};
 ghost use Rattle.std.specs.Io.KnownBytes.{Appends};
 ghost use Rattle.jx_ends.specs.Ends.{AppendsBeginning};
@@ -31,7 +31,7 @@ fn write_saved<W: Sink>(alloc: Global, writer: &mut W, saved: &SavedText) -> Res
     write_whole(writer, &bytes)
 }
 
-/// What is told of a text that is refused.
+/// The report on a text that is refused.
 fn told_of_refusal(alloc: Global, refusal: Refusal) -> Result<Vec<u8>, AllocError>
     ensures { IfOk result (λ told. told.items ≡ codes "jx: " ++ line (refusal_words refusal)) }
 {
@@ -40,7 +40,7 @@ fn told_of_refusal(alloc: Global, refusal: Refusal) -> Result<Vec<u8>, AllocErro
     Ok(told)
 }
 
-/// Tells what there is to tell, unless telling has failed before. Where telling fails, no more is told.
+/// Writes the report, unless reporting has failed before. Where reporting fails, no more is reported.
 fn tell<E: Sink>(errors: &mut E, told: &[u8])
     ensures { E.has_failed errors.new ≡ false → Appends (E.contents errors.old) (E.contents errors.new) told.now }
 {
@@ -49,13 +49,13 @@ fn tell<E: Sink>(errors: &mut E, told: &[u8])
     }
 }
 
-/// Reads a text to the end of input, and then writes the bytes of its index, for chunks of this size, with tables of its names
-/// behind it where these are asked for. Of an input that is refused nothing is written, and `jx: VERDICT` is told. The exit is good
-/// where nothing is told.
+/// Reads a text to the end of input, and then writes the bytes of its index, for chunks of this size, with tables of
+/// its names after it where these are asked for. Of an input that is refused nothing is written, and `jx: VERDICT` is
+/// reported. The status is good where nothing is reported.
 ///
-/// Of the input one batch is held, or one chunk where that is longer, and the entries of its chunks, which are 24 bytes for each;
-/// where names have to be unique, also the names of open objects; and with tables four bytes for each name that they have. The bytes
-/// are made before the first one is written. Where telling fails, the exit is the same.
+/// Of the input one batch is kept, or one chunk where that is longer, and the entries of its chunks, which are 24 bytes
+/// for each; where names have to be unique, also the names of open objects; and with tables four bytes for each name
+/// that they have. The bytes are made before the first one is written. Where reporting fails, the status is the same.
 pub fn report_index<S: Source, W: Sink, E: Sink>(
     alloc: Global,
     reader: &mut S,
@@ -72,7 +72,7 @@ pub fn report_index<S: Source, W: Sink, E: Sink>(
         (W.contents writer.old) (W.contents writer.new) (E.has_failed errors.new) (E.contents errors.old) (E.contents errors.new) exit) }
     ensures read { IsErrOf result ReportFault.Read ↔ (S.has_failed reader.new ≡ true) }
     ensures write { IsErrOf result ReportFault.Write ↔ (W.has_failed writer.new ≡ true) }
-    // After any other fault the writer is as it was, and after each fault nothing was told.
+    // After any other fault the writer is as it was, and after each fault nothing was reported.
     ensures unwritten { IfErr result (λ fault. fault ≢ ReportFault.Write → writer.new ≡ writer.old) }
     ensures untold { OnErr result (errors.new ≡ errors.old) }
     // After a write fault all was read, it is a text, and a beginning of its output was written.

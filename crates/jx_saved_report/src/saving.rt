@@ -1,4 +1,4 @@
-// What the bytes of an input come to whose index is saved, while they are read.
+// The state of an input whose index is saved, while it is read.
 ghost use Rattle.std.specs.Prelude.{◌≡◌, ◌++◌, [], ℕ, List, IfOk, OnOk};
 ghost use Rattle.jx_run.specs.declared.texts.settings.NameRule.TheVariants.{Unique};
 ghost use Rattle.jx_run.specs.declared.texts.settings.Settings.{Settings};
@@ -10,7 +10,7 @@ use jx_run::{NameRule, Refusal, Settings, Verdict, verdict_by_settings_is_one};
 use jx_saved::{ChunkSize, Index, Indexer};
 use std::alloc::{AllocError, Global};
 
-/// What the bytes of an input that were read come to.
+/// The state of an input that is read.
 #[derive(Drop)]
 pub(crate) enum Saving {
     /// The index of a text.
@@ -57,7 +57,7 @@ fn with_unique_names(index: Index) -> Index
     }
 }
 
-/// What a text comes to whose names have this verdict.
+/// The result for a text whose names have this verdict.
 fn finish_by_names(indexer: Indexer, verdict: Verdict) -> Result<Result<Index, Refusal>, AllocError>
     ensures { IfOk result (λ read. (settings : Settings) (chunk : ℕ) (bytes : List ℕ) → IsByNames settings chunk bytes indexer verdict → Comes settings chunk bytes read) }
 {
@@ -88,7 +88,7 @@ impl Saving {
         }
     }
 
-    /// Reads a batch behind what was read. Memory is refused too where the last byte has no offset.
+    /// Reads a batch after what was read. It is also out of memory where the last byte has no offset.
     pub fn feed(&mut self, batch: &[u8]) -> Result<(), AllocError>
         ensures { OnOk result ((settings : Settings) (chunk : ℕ) (bytes : List ℕ) → IsSavingOf settings chunk bytes self.old → IsSavingOf settings chunk (bytes ++ batch.now) self.new) }
     {
@@ -104,7 +104,7 @@ impl Saving {
         }
     }
 
-    /// What all bytes that were read come to: the index of the text that they are, or why they are none.
+    /// The index of the text that all bytes read make, or why they are not a text.
     pub fn finish(self) -> Result<Result<Index, Refusal>, AllocError>
         ensures { IfOk result (λ read. (settings : Settings) (chunk : ℕ) (bytes : List ℕ) → IsSavingOf settings chunk bytes self → Comes settings chunk bytes read) }
     {

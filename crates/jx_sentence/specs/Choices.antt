@@ -1,4 +1,5 @@
--- What may stand at a place of a text, by the classes of bytes, and what the lexical machine and the table of moves allow there.
+-- The bytes that may stand at a place of a text, by their classes, and what the lexical machine and the table of moves
+-- allow there.
 use Rattle.std.specs.Prelude.{List, [], ◌∷◌, ◌++◌, Bool, true, false, ◌&&◌, Option, Some, None, is_some}
 use Rattle.std.specs.List.{list_any}
 use Rattle.jx_lex.specs.Moves.{row}
@@ -165,7 +166,7 @@ choices_of found = found.inside.now ++ found.between.now
 
 -- ---- what the machine and the moves allow
 
--- the table of moves allows the mark, if there is one
+-- the table of moves allows the token, if there is one
 abbrev pub mark_allowed : Option MarkKind → Expect → Holder → Bool
 mark_allowed None next top = true
 mark_allowed (Some kind) next top = is_some (next_of kind next top)

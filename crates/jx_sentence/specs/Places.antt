@@ -10,13 +10,13 @@ first_place = record { line = 1; column = 1 }
 abbrev pub is_tail : ℕ → Bool
 is_tail byte = nat_le 0x80 byte && nat_le byte 0xbf
 
--- the place behind a byte: a line feed ends its line, and any other byte that begins a character has a column of its own
+-- the place after a byte: a line feed ends its line, and any other byte that begins a character has a column of its own
 abbrev pub place_past : Place → ℕ → Place
 place_past p byte =
     if byte == 10 then record { line = p.line + 1; column = 1 }
     else (if is_tail byte then p else record { line = p.line; column = p.column + 1 })
 
--- the place behind these bytes
+-- the place after these bytes
 abbrev pub place_behind : Place → List ℕ → Place
 place_behind p bytes = fold place_past p bytes
 

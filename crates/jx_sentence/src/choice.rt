@@ -1,14 +1,14 @@
-// What may stand at a place of a text.
+// The choices for the byte at a place of a text.
 ghost use Rattle.std.specs.Prelude.{◌≡◌};
 ghost use Rattle.jx_sentence.specs.Choices.{choices, choices_between, choices_inside, choices_of, may_end};
 
 use jx_lex::LexState;
 use jx_reduce::{Expect, Holder};
 
-/// What may stand at a place, as people are told.
+/// A choice for the byte at a place, as messages name it.
 #[derive(Clone, Copy, Debug, PartialEq, Eq)]
 pub enum Choice {
-    /// A blank between tokens: a space, a tab, a line feed or a carriage return.
+    /// White space between tokens: a space, a tab, a line feed or a carriage return.
     Blank,
     /// The first byte of a value.
     Value,
@@ -28,10 +28,10 @@ pub enum Choice {
     Exponent,
     /// The sign of an exponent.
     Sign,
-    /// What may stand in a string: the first byte of a character that need not be escaped, a backslash, or the quotation mark
-    /// that ends it.
+    /// In a string: the first byte of a character that need not be escaped, a backslash, or the quotation mark that
+    /// ends it.
     Character,
-    /// What may stand behind a backslash.
+    /// The byte after a backslash.
     Escape,
     /// One of 0 to 9, a to f and A to F.
     HexDigit,
@@ -62,13 +62,13 @@ pub enum Choice {
 /// All that may stand at a place.
 #[derive(Clone, Copy, Debug)]
 pub struct Choices {
-    /// What goes on with the token.
+    /// Choices that go on with the token.
     pub inside: &'static [Choice],
-    /// What may stand between tokens, where none is begun or the token may end.
+    /// Choices between tokens, where none is begun or the token may end.
     pub between: &'static [Choice],
 }
 
-/// What goes on with the token in which the lexical machine stands.
+/// Choices that go on with the token in which the lexical machine is.
 fn choices_inside(state: LexState) -> &'static [Choice]
     ensures { result.now ≡ choices_inside state }
 {
@@ -106,7 +106,7 @@ fn may_end(state: LexState) -> bool
     )
 }
 
-/// What may stand between tokens, by what may stand next and the innermost open container.
+/// Choices between tokens, by the expectation and the innermost open container.
 fn choices_between(expect: Expect, top: Holder) -> &'static [Choice]
     ensures { result.now ≡ choices_between expect top }
 {

@@ -19,8 +19,8 @@ fn name_of(rows: &[Row], node: NodeId) -> Option<Span> {
     rows.get(node.number())?.name
 }
 
-/// Where the name stands that has the value of the one that begins at an offset, and stands before it in their object. Equal
-/// names stand by place in the list of names.
+/// Where the name stands that has the value of the one that begins at an offset, and is before it in their object.
+/// Equal names stand by place in the list of names.
 pub fn earlier_name(index: &Indexed, at: usize) -> Option<Span> {
     let rows = index.rows();
     let row = rows.iter().find(|row| name_start(row) == Some(at))?;

@@ -1,4 +1,5 @@
-//! What is wrong at a place of a text: where a reading stands there, what could stand there instead, and a sentence of both.
+//! Messages about a place of a text: where a reading stands there, what could stand there instead, and a sentence of
+//! both.
 #![tactic(auto)]
 
 mod choice;

@@ -6,7 +6,7 @@ ghost use Rattle.jx_sentence.specs.Places.{first_place, place_at, place_past};
 pub struct Place {
     /// The line, counted from 1. A line feed ends a line.
     pub line: usize,
-    /// The character in its line, counted from 1. Each byte that is none of 80 to BF begins one.
+    /// The character in its line, counted from 1. Each byte but 80 to BF begins one.
     pub column: usize,
 }
 
@@ -18,7 +18,7 @@ impl Place {
         Place { line: 1, column: 1 }
     }
 
-    /// The place behind a byte that stands at this one.
+    /// The place after a byte that stands at this one.
     fn past(self, byte: u8) -> Place
         requires { (self.line + 1 < 2 ^ 64) × (self.column + 1 < 2 ^ 64) }
         ensures { result ≡ place_past self byte }

@@ -1,4 +1,4 @@
-// What is wrong at a place, in a sentence.
+// The fault at a place, in a sentence.
 use crate::choice::{Choice, Choices};
 use crate::place::Place;
 use crate::shown::push_shown;
@@ -11,7 +11,7 @@ use std::fmt::Write;
 /// The bytes of a byte order mark.
 const MARK: &[u8] = b"\xEF\xBB\xBF";
 
-/// What may stand at a place, in words; none for blanks, which are not told.
+/// The words for a choice at a place; none for white space, which is not named.
 fn words_of(choice: Choice) -> Option<&'static str> {
     match choice {
         Choice::Blank => None,
@@ -52,7 +52,7 @@ fn literal_of(state: LexState) -> Option<&'static str> {
     }
 }
 
-/// How many of them are told.
+/// How many of them are reported.
 fn count(choices: &Choices) -> usize {
     let told = |choice: &&Choice| **choice != Choice::Blank;
     let inside = choices.inside.iter().filter(told).count();
@@ -114,8 +114,9 @@ fn known_mistake(standing: &Standing, byte: u8) -> Option<&'static str> {
     }
 }
 
-/// Appends the sentence for a text that stopped at an offset where the first of these bytes stands, by where the reading stood
-/// there; where it stood nowhere, a byte order mark was begun. The first character of the bytes is told.
+/// Appends the sentence for a text that stopped at an offset where the first of these bytes stands, by where the
+/// reading stood there; where it stood nowhere, a byte order mark was begun. The first character of the bytes is
+/// reported.
 pub fn push_stopped(
     out: &mut String,
     rest: &[u8],

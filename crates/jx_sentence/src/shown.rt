@@ -7,10 +7,10 @@ use unicode_width::UnicodeWidthChar;
 /// How many columns a byte takes that is shown as `\xHH`.
 const ESCAPED: usize = 4;
 
-/// U+FFFD in UTF-8, for which a decoder takes what is none.
+/// U+FFFD in UTF-8, which a decoder puts in place of bytes that are not UTF-8.
 const REPLACEMENT: &[u8] = b"\xEF\xBF\xBD";
 
-/// How many columns a piece of bytes takes that is this character; none where it is no UTF-8, or is not printed.
+/// How many columns a part of bytes takes that is this character; none where it is no UTF-8, or is not printed.
 fn printed_columns(piece: &[u8], character: char) -> Option<usize> {
     if character == '\u{FFFD}' && piece != REPLACEMENT {
         return None;
@@ -21,7 +21,7 @@ fn printed_columns(piece: &[u8], character: char) -> Option<usize> {
     }
 }
 
-/// How many columns a piece takes as it is shown.
+/// How many columns a part takes as it is shown.
 fn piece_columns(piece: &[u8], character: char) -> usize {
     match printed_columns(piece, character) {
         Some(width) => width,

@@ -15,12 +15,12 @@ use jx_reduce::{Expect, Holder, KnownStack};
 use jx_run::reader_is_grammar;
 use std::alloc::{AllocError, Global};
 
-/// Where a reading stands behind bytes that begin a text.
+/// Where a reading stands after bytes that begin a text.
 #[derive(Clone, Copy, Debug)]
 pub struct Standing {
     /// How far it is in a token, or that it stands between two.
     pub state: LexState,
-    /// What may stand next between tokens.
+    /// The expectation between tokens.
     pub expect: Expect,
     /// The innermost open container.
     pub top: Holder,
@@ -70,9 +70,9 @@ pub fn innermost(mut holders: Vec<Holder>) -> Holder
     }
 }
 
-/// Where a reading stands behind the bytes of a text from one offset up to another, from the start of a text on; none just
-/// where it meets a fault among them, as they begin no text within the depth. The last token is the one that the last mark
-/// begins, and where there is none, it is at the first offset. Only want of memory is refused.
+/// Where a reading stands after the bytes of a text from one offset up to another, from the start of a text on; none
+/// just where it meets a fault among them. The last token is the one that the last token start begins, and where there
+/// is none, it is at the first offset. Fails only when out of memory.
 pub fn standing_behind(
     alloc: Global,
     text: &[u8],

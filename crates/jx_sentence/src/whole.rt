@@ -1,4 +1,4 @@
-// What is wrong with a text, in a sentence.
+// The fault of a text, in a sentence.
 use crate::earlier_name::earlier_name;
 use crate::place::place_of;
 use crate::sentence::{
@@ -20,7 +20,7 @@ pub fn offset_of(text: &[u8], refusal: Refusal) -> usize {
     }
 }
 
-/// Where a reading of a text stands before an offset, by settings; none where it stands in a byte order mark.
+/// Where a reading of a text is before an offset, by settings; none where it stands in a byte order mark.
 pub fn standing_before(
     alloc: Global,
     text: &[u8],

@@ -1,4 +1,4 @@
--- What contracts see of a shelf and of its notes.
+-- A shelf and its notes, as contracts see them.
 use Rattle.std.specs.Prelude.{◌≡◌, ℕ, Option, Some, IfSome}
 use Rattle.jx_index.specs.Indexed.{IndexedValue}
 

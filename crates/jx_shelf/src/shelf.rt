@@ -24,7 +24,7 @@ impl<'a> Model for Shelf<'a> {
     ghost view = { λ shelf. cell_name shelf.cell };
 }
 
-/// What its holder has learned of a shelf: nothing yet, or which index stands there. It has no bytes.
+/// The knowledge of a holder of a shelf: nothing yet, or which index is there. It has no bytes.
 #[derive(Drop)]
 pub struct ShelfNote<'a> {
     note: Note<Indexed<'a>>,
@@ -58,7 +58,7 @@ impl<'a> Shelf<'a> {
     }
 
     /// Puts an index on the shelf, where none stands there: the note then knows it. Else the index is handed back with
-    /// `Taken`, and for want of memory with `Memory`.
+    /// `Taken`, and when out of memory with `Memory`.
     pub fn publish(
         &self,
         note: &mut ShelfNote<'a>,

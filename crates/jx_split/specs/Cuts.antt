@@ -1,4 +1,4 @@
--- What the marks of a text, one after another, come to for the parts of a container in it.
+-- The cuts of a container into parts, as the token starts of a text come one after another.
 use Rattle.std.specs.Prelude.{ℕ, suc, zero, ◌==◌, ◌&&◌, nat_lt, List, [], ◌∷◌, ◌++◌, fold, Bool, true, false, if◌then◌else◌}
 use Rattle.jx_lex.specs.declared.alphabet.mark.Mark.{Mark}
 use Rattle.jx_lex.specs.declared.alphabet.mark.MarkKind.{MarkKind}
@@ -13,7 +13,7 @@ use Rattle.jx_split.specs.declared.part.ContainerPart.{ContainerPart}
 use Rattle.jx_split.specs.Parts.{part_of}
 
 pub record Cuts : Type 0 where
-  -- of the marks behind the container's opening bracket, up to its closing one
+  -- of the token starts after the container's opening bracket, up to its closing one
   pub sum : Sum
   -- one of them was another than that
   pub some : Bool
@@ -38,11 +38,11 @@ open_part at end c = record { number = c.number; span = span (suc c.start) at; f
 abbrev pub with_part : ℕ → ℕ → Cuts → Cuts
 with_part at end c = record c { ended = c.ended ++ open_part at end c ∷ [] }
 
--- with the sum of one mark more
+-- with the sum of one token start more
 abbrev pub with_mark : MarkKind → Cuts → Cuts
 with_mark kind c = record c { sum = noted kind c.sum; some = true }
 
--- at a comma behind a child, where the next one stands in a part with this number
+-- at a comma after a child, where the next one stands in a part with this number
 abbrev pub at_child : ℕ → ℕ → Cuts → Cuts
 at_child number at c = if number == c.number then c else record (with_part at c.sum.commas c) { number = number; start = at; first = c.sum.commas }
 
@@ -63,7 +63,7 @@ abbrev pub at_depth : ℕ → Aim → MarkKind → ℕ → Cuts → Cuts
 at_depth zero aim kind at c = at_level aim kind at c
 at_depth (suc n) aim kind at c = with_mark kind c
 
--- a mark up to the opening bracket, or behind the closing one, is of no account
+-- a token start up to the opening bracket, or after the closing one, is ignored
 abbrev pub is_within : Aim → ℕ → Cuts → Bool
 is_within aim at c = nat_lt aim.whole.start at && (c.sum.closed == 0)
 

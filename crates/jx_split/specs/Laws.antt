@@ -1,4 +1,4 @@
--- What the parts of a container are to its bytes and to its children.
+-- The parts of a container, and its bytes and children.
 use Rattle.std.specs.Prelude.{◌≡◌, ◌-◌, ◌<◌, ℕ, suc, List, [], ◌∷◌, length}
 use Rattle.jx_run.specs.declared.texts.settings.Settings.{Settings}
 use Rattle.jx_run.specs.Laws.{span_of}
@@ -6,8 +6,8 @@ use Rattle.jx_run.specs.Tree.{Tree}
 use Rattle.jx_split.specs.declared.part.ContainerPart.{ContainerPart}
 use Rattle.jx_split.specs.Parts.{IsIn, parts_of, places_in}
 
--- they follow one another, from behind a comma or a bracket on, and from a child's number on, up to another of both: between
--- two of them one comma stands, and each has a child
+-- they follow one another, from after a comma or a bracket on, and from a child's number on, up to another of both:
+-- between two of them one comma stands, and each has a child
 pub data Follow : ℕ → ℕ → ℕ → ℕ → List ContainerPart → Type 0 where
   none : {at n : ℕ} → Follow at n at n []
   more : {at n last count : ℕ} {p : ContainerPart} {ps : List ContainerPart} → p.span.start ≡ suc at → p.first ≡ n → n < p.end → Follow p.span.end p.end last count ps → Follow at n last count (p ∷ ps)

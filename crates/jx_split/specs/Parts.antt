@@ -14,7 +14,8 @@ use Rattle.jx_split.specs.declared.part.ContainerPart.{ContainerPart}
 
 -- ---- children
 
--- where the comma before a child stands, or the container's bracket before the first; and the comma or the bracket behind it
+-- where the comma before a child stands, or the container's bracket before the first; and the comma or the bracket
+-- after it
 pub record Place : Type 0 where
   pub before : ℕ
   pub behind : ℕ

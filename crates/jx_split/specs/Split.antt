@@ -10,11 +10,11 @@ use Rattle.jx_split.specs.declared.cutting.Parting.{Parting}
 use Rattle.jx_split.specs.declared.split.Split.{Split}
 use Rattle.jx_split.specs.Cuts.{Cuts, begun, cut_all, cuts_of}
 
--- what all marks of the first chunks come to, so many
+-- what all token starts of the first chunks lead to, so many
 abbrev pub IsCutAt : Settings → ℕ → List ℕ → Aim → ℕ → Cuts → Type 0
 IsCutAt settings chunk text aim at c = c ≡ cut_all aim (tokens_by settings.mark (take (at * chunk) text)).marks (begun aim.whole)
 
--- it has the index of this text, and what the marks come to of all bytes before the chunk that it needs
+-- it has the index of this text, and what the token starts lead to of all bytes before the chunk that it needs
 pub record HasCome (settings : Settings) (chunk : ℕ) (text : List ℕ) (s : Split) : Type 0 where
   pub known : IsKnown settings chunk text s.index.now
   pub kept : Parting
@@ -38,6 +38,6 @@ left s = s.index.now.size - s.at * s.index.now.chunk
 abbrev pub IsUnclosed : Split → Type 0
 IsUnclosed s = is_going s.held ≡ true
 
--- memory was refused, or the index was found to be of no text, and no bytes will be taken
+-- out of memory, or the index was found not to be that of any text, and no bytes will be taken
 abbrev pub IsLost : Split → Type 0
 IsLost s = s.held ≡ None

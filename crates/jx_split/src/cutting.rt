@@ -1,4 +1,4 @@
-// What is kept of the marks of a container, for its parts.
+// The state kept of the token starts of a container, for its parts.
 ghost use Rattle.std.specs.Prelude.{◌≡◌, IfSome, OnOk};
 ghost use Rattle.jx_split.specs.Cuts.{at_child, at_last, at_level, cut, cuts_of, begun, with_mark, with_part};
 ghost use Rattle.jx_split.specs.Parts.{part_of};
@@ -17,10 +17,10 @@ pub struct Aim {
     pub parts: usize,
 }
 
-/// What the marks of a text came to.
+/// The state after the token starts of a text.
 #[derive(Debug, Drop)]
 pub struct Parting {
-    /// The sum of the marks behind the container's opening bracket, up to its closing one.
+    /// The sum of the token starts after the container's opening bracket, up to its closing one.
     pub sum: Sum,
     /// Whether one of them was another than that.
     pub some: bool,
@@ -50,7 +50,7 @@ impl Aim {
 }
 
 impl Parting {
-    /// Before the first mark.
+    /// Before the first token start.
     pub(crate) fn new(alloc: Global, whole: Span) -> Parting
         ensures { cuts_of result ≡ begun whole }
     {
@@ -64,7 +64,7 @@ impl Parting {
         }
     }
 
-    /// Counts a mark.
+    /// Counts a token start.
     fn count(&mut self, kind: MarkKind) -> Result<(), AllocError>
         ensures { OnOk result (cuts_of self.new ≡ with_mark kind (cuts_of self.old)) }
     {
@@ -90,7 +90,7 @@ impl Parting {
         Ok(())
     }
 
-    /// At a comma, behind which a child of the part with this number stands.
+    /// At a comma, after which a child of the part with this number stands.
     fn begin_child(&mut self, number: usize, at: usize) -> Result<(), AllocError>
         ensures { OnOk result (cuts_of self.new ≡ at_child number at (cuts_of self.old)) }
     {
@@ -120,7 +120,7 @@ impl Parting {
         Ok(())
     }
 
-    /// At a mark between children.
+    /// At a token start between children.
     fn turn(&mut self, aim: Aim, kind: MarkKind, at: usize) -> Result<(), AllocError>
         ensures { OnOk result (cuts_of self.new ≡ at_level aim kind at (cuts_of self.old)) }
     {
@@ -135,7 +135,7 @@ impl Parting {
         }
     }
 
-    /// Takes one mark more. Only want of memory is refused, and counts that are too large.
+    /// Takes one token start more. Fails only when out of memory, and counts that are too large.
     pub(crate) fn take(&mut self, aim: Aim, mark: Mark) -> Result<(), AllocError>
         ensures { OnOk result (cuts_of self.new ≡ cut aim mark (cuts_of self.old)) }
     {

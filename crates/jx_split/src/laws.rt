@@ -1,4 +1,4 @@
-// What the parts of a container are.
+// Laws of the parts of a container.
 ghost use Rattle.jx_split.specs.Laws.{HaveEach};
 
 use jx_index::indexes_stand_behind_fronts;

@@ -1,4 +1,4 @@
-// A sink that is told the marks of a chunk.
+// A sink that is given the token starts of a chunk.
 ghost use Rattle.std.specs.Prelude.{◌≡◌, []};
 ghost use Rattle.jx_split.specs.Cuts.{cuts_of};
 ghost use Rattle.jx_split.specs.inside.Marked.{HasCut};
@@ -8,7 +8,7 @@ use jx_lex::{Mark, TokenSink};
 use std::alloc::AllocError;
 use std::marker::{Brand, PhantomData};
 
-/// What there was before a chunk, for which container, and where the chunk stands. A call picks them.
+/// The state before a chunk, for which container, and where the chunk is. A call picks them.
 pub trait Earlier {
     ghost use Rattle.std.specs.Prelude.{ℕ};
     ghost use Rattle.jx_split.specs.declared.cutting.Aim.{Aim};
@@ -32,7 +32,7 @@ impl Earlier for Brand {
     ghost cuts = { begun (span 0 0) };
 }
 
-/// What the marks came to, of a text up to some mark of a chunk that stands from `base` on.
+/// The state after the token starts of a text, up to some token start of a chunk that stands from `base` on.
 #[derive(Drop)]
 pub struct Marked<E> {
     pub aim: Aim,
@@ -42,7 +42,7 @@ pub struct Marked<E> {
 }
 
 impl<E: Earlier> Marked<E> {
-    /// No mark of the chunk was told.
+    /// No token start of the chunk was given.
     pub(crate) fn new(aim: Aim, base: usize, cutting: Parting) -> Marked<E>
         requires aim { aim ≡ E.aim }
         requires base { base ≡ E.base }

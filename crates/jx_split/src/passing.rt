@@ -7,7 +7,7 @@ use crate::cutting::{Aim, Parting};
 use jx_lex::Span;
 use jx_saved::Sum;
 
-/// Whether all of a stretch that has a byte stands in the part that is open.
+/// Whether all of a part that has a byte stands in the part that is open.
 fn is_in_part(aim: Aim, number: usize, span: Span) -> bool
     ensures { result ≡ true → AllInPart aim number span }
 {
@@ -20,8 +20,9 @@ fn is_in_part(aim: Aim, number: usize, span: Span) -> bool
     }
 }
 
-/// The sum behind a chunk whose marks have a sum, where no part begins or ends in it. That is so where all of its marks stand in
-/// children that it does not end, or where it does not end the container and stands in the open part.
+/// The sum after a chunk whose token starts have a sum, where no part begins or ends in it. That is so where all of its
+/// token starts stand in children that it does not end, or where it does not end the container and stands in the open
+/// part.
 pub(crate) fn pass(held: &Parting, aim: Aim, span: Span, sum: Sum) -> Option<Sum>
     ensures { IfSome result (IsPassed aim span sum (cuts_of held.now)) }
 {

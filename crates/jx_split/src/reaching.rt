@@ -1,4 +1,4 @@
-// How far chunks are read, or passed over.
+// How far chunks are read, or skipped.
 ghost use Rattle.std.specs.Prelude.{◌≡◌, ◌+◌, ◌*◌, ◌≤◌, ℕ, List, Some, slice_range, IfNone, IfOk, IfSome};
 ghost use Rattle.jx_run.specs.declared.texts.settings.Settings.{Settings};
 ghost use Rattle.jx_saved.specs.Chunks.{before, entry_behind, part};
@@ -16,7 +16,7 @@ use jx_saved::{Entry, Index, Sum};
 use jx_walk::{chunk_at, entry_at};
 use std::alloc::{AllocError, Global};
 
-/// How far chunks were passed over, and what the marks came to.
+/// How far chunks were skipped, and what the token starts led to.
 #[derive(Drop)]
 pub(crate) struct Reached {
     pub held: Parting,
@@ -30,7 +30,7 @@ fn step(at: usize) -> Result<usize, AllocError>
     at.checked_add(1).ok_or(AllocError)
 }
 
-/// What is kept of the chunk at a place where the text has one.
+/// The entry of the chunk at a place where the text has one.
 fn kept_of(index: &Index, at: usize, span: Span) -> Option<Entry>
     requires here { chunk_at index.now at ≡ Some span }
     ensures kept { IfSome result (λ e. (settings : Settings) (chunk : ℕ) (text : List ℕ) → IsKnown settings chunk text index.now → e ≡ entry_behind (before settings text (at * chunk)) (part chunk text at)) }
@@ -38,7 +38,7 @@ fn kept_of(index: &Index, at: usize, span: Span) -> Option<Entry>
     entry_at(index, at)
 }
 
-/// The sum behind the chunk at a place, where it need not be read. The first chunk is read.
+/// The sum after the chunk at a place, where it need not be read. The first chunk is read.
 fn sum_over(index: &Index, aim: Aim, held: &Parting, at: usize) -> Option<Sum>
     ensures { IfSome result (λ sum. (settings : Settings) (chunk : ℕ) (text : List ℕ) → IsKnown settings chunk text index.now → IsCutAt settings chunk text aim at (cuts_of held.now)
         → IsCutAt settings chunk text aim (at + 1) (record (cuts_of held.now) { sum = sum })) }
@@ -52,7 +52,7 @@ fn sum_over(index: &Index, aim: Aim, held: &Parting, at: usize) -> Option<Sum>
     pass(held, aim, span, here.sum)
 }
 
-/// Passes over all chunks from a place on that need not be read.
+/// Skips all chunks from a place on that need not be read.
 fn pass_on(index: &Index, aim: Aim, held: Parting, at: usize) -> Reached
     ensures later { at ≤ result.at }
     ensures cut { (settings : Settings) (chunk : ℕ) (text : List ℕ) → IsKnown settings chunk text index.now → IsCutAt settings chunk text aim at (cuts_of held)
@@ -71,8 +71,8 @@ fn pass_on(index: &Index, aim: Aim, held: Parting, at: usize) -> Reached
     Reached { held, at }
 }
 
-/// Reads the chunk at a place behind what the marks before it came to, and passes over those behind it that need not be read;
-/// none where it is a chunk of no text that has this index.
+/// Reads the chunk at a place after what the token starts before it led to, and skips those after it that need not be
+/// read; none where the chunk and the index are not of one text.
 pub(crate) fn read_on(
     alloc: Global,
     index: &Index,

@@ -1,4 +1,4 @@
-// A chunk that is read behind what the marks before it came to.
+// A chunk that is read after what the token starts before it led to.
 ghost use Rattle.std.specs.Prelude.{◌≡◌, ◌+◌, ℕ, List, Some, slice_range, true, IfNone, IfOk, IfSome};
 ghost use Rattle.jx_lex.specs.declared.alphabet.state.LexState.{LexState};
 ghost use Rattle.jx_lex.specs.Lex as lexical;
@@ -20,7 +20,7 @@ use jx_walk::entry_at;
 use std::alloc::{AllocError, Global};
 use std::marker::Brand;
 
-/// Reads the first bytes of a text; none where with them no text begins.
+/// Reads the first bytes of a text; none where they do not begin a text.
 fn read_first<E: Earlier>(
     alloc: Global,
     settings: &Settings,
@@ -65,8 +65,8 @@ fn read_later<E: Earlier>(
     Ok(Some(sink.cutting))
 }
 
-/// Reads the chunk at a place behind what the marks before it came to; none where it is a chunk of no text that has this
-/// index.
+/// Reads the chunk at a place after what the token starts before it led to; none where the chunk and the index are not
+/// of one text.
 pub(crate) fn read_chunk(
     alloc: Global,
     index: &Index,

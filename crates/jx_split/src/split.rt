@@ -25,8 +25,9 @@ use jx_saved::Index;
 use jx_walk::{WalkFault, chunk_at, is_kept};
 use std::alloc::{AllocError, Global};
 
-/// The parts of an array or an object for so many loaders, in a JSON text (RFC 8259) of which an index is saved. It tells which
-/// bytes of the text it needs, and is given them; chunks in which no part begins or ends are passed over. It keeps the parts.
+/// The parts of an array or an object for so many loaders, in a JSON text (RFC 8259) of which an index is saved. It
+/// says which bytes of the text it needs, and is given them; chunks in which no part begins or ends are skipped. It
+/// keeps the parts.
 #[derive(Drop)]
 pub struct Split<'a> {
     alloc: Global,
@@ -34,7 +35,7 @@ pub struct Split<'a> {
     aim: Aim,
     /// Which chunk is needed next.
     at: usize,
-    /// What the marks before it came to. None where memory was refused, or the index is of no text.
+    /// The state after the token starts before it. None when out of memory, or the index is not that of any text.
     held: Option<Parting>,
 }
 
@@ -90,13 +91,13 @@ impl<'a> Split<'a> {
         chunk_at(self.index, self.at)
     }
 
-    /// Gives it the bytes that it needs. Where they are others than those of the text that was indexed, nothing is taken, and
-    /// other bytes may be given. Where it needs none, nothing is done. `Err` where memory is refused or the index was found
-    /// to be of no text, and from then on always.
+    /// Gives it the bytes that it needs. Where they are others than those of the text that was indexed, nothing is
+    /// taken, and other bytes may be given. Where it needs none, nothing is done. `Err` when out of memory or the index
+    /// was found not to be that of any text, and from then on always.
     pub fn give(&mut self, bytes: &[u8]) -> Result<Result<(), WalkFault>, AllocError>
         ensures index { self.new.index.now ≡ self.old.index.now }
         ensures aim { self.new.aim ≡ self.old.aim }
-        // Bytes of the text, as far as their digest tells, lead on.
+        // Bytes of the text, as far as their digest decides, lead on.
         ensures come { IfOk result (λ told. IfOk told (λ _. (settings : Settings) (chunk : ℕ) (text : List ℕ) → HasCome settings chunk text self.old
             → ((span : Span) → needed self.old ≡ Some span → IsToldApart text span bytes.now) → HasCome settings chunk text self.new)) }
         // Whatever the index, it goes forward.
@@ -128,15 +129,15 @@ impl<'a> Split<'a> {
         Ok(Ok(()))
     }
 
-    /// The parts that have a child, in order; or that the index is of no text, as where the container stays open. `Err` where
-    /// memory is or was refused.
+    /// The parts that have a child, in order; or that the index is not that of any text, as where the container stays
+    /// open. `Err` when out of memory, now or before.
     pub fn parts(self) -> Result<Result<Vec<ContainerPart>, WalkFault>, AllocError>
         requires all { needed self ≡ None }
         ensures found { IfOk result (λ told. IfOk told (λ parts. (settings : Settings) (chunk : ℕ) (text : List ℕ) (container : Tree) → HasCome settings chunk text self.entry
             → IsIn settings text container → span_of container ≡ self.entry.aim.whole → parts.items ≡ parts_of self.entry.aim.parts text container)) }
         ensures damaged { IfOk result (λ told. IfErr told (λ fault. (settings : Settings) (chunk : ℕ) (text : List ℕ) (container : Tree) → HasCome settings chunk text self.entry
             → IsIn settings text container → span_of container ≡ self.entry.aim.whole → ⊥)) }
-        // Damage is told just where the closing bracket was not seen.
+        // Damage is reported just where the closing bracket was not seen.
         ensures unclosed { IsUnclosed self.entry → result ≡ Ok (Err Damaged) }
         ensures only { IfOk result (λ told. IfErr told (λ _. IsUnclosed self.entry)) }
         ensures lost { IsLost self.entry → IsErr result }

@@ -1,4 +1,4 @@
--- What the contracts of this crate's own functions cite.
+-- Definitions that only the contracts of this crate's own functions cite.
 pub mod Pairs
 pub mod TextIn
 pub mod UnitsLeft

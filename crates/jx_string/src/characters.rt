@@ -83,8 +83,8 @@ impl<'a> Characters<'a> {
         }
     }
 
-    /// The next character, as `Some(Some(_))`; `Some(None)` where half of a surrogate pair stands without the other half; and
-    /// `None` behind the last one.
+    /// The next character, as `Some(Some(_))`; `Some(None)` where half of a surrogate pair stands without the other
+    /// half; and `None` after the last one.
     pub fn next_character(&mut self) -> Option<Option<char>>
         ensures { MatchOption result (characters_left self.old ≡ []) (λ character. characters_left self.old ≡ character ∷ characters_left self.new) }
     {

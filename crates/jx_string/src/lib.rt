@@ -1,4 +1,4 @@
-//! What JSON strings stand for: characters, and texts in UTF-8 (RFC 8259, section 7).
+//! Values of JSON strings: characters, and texts in UTF-8 (RFC 8259, section 7).
 #![tactic(auto)]
 
 mod characters;

@@ -1,4 +1,4 @@
-// What stands at the front of a string's bytes (RFC 8259, section 7).
+// The character or escape at the front of a string's bytes (RFC 8259, section 7).
 ghost use Rattle.std.specs.Prelude.{◌≡◌, ◌<◌, ◌∷◌, [], slice_index, drop, IfSome};
 ghost use Rattle.std.specs.Char.{digit_value};
 ghost use Rattle.std.specs.Char.Escape.{encode_utf16};
@@ -7,7 +7,7 @@ ghost use Rattle.jx_index.specs.declared.units.Spelling.TheVariants.{InText, InT
 ghost use Rattle.jx_index.specs.Units.{char_at, tails_of, char_units, char_more, escape_units};
 ghost use Rattle.jx_string.specs.inside.Pairs.{units_in};
 
-/// One unit or two, and how many bytes spell them behind the first one.
+/// One unit or two, and how many bytes encode them after the first one.
 #[derive(Clone, Copy, Debug)]
 pub(crate) struct Spelt {
     pub(crate) first: u32,
@@ -25,7 +25,7 @@ fn byte_at(bytes: &[u8], at: usize) -> u8
     }
 }
 
-/// What some bytes leave of others.
+/// The bytes after the first `count`.
 pub(crate) fn behind(bytes: &[u8], count: usize) -> &[u8]
     ensures { result.now ≡ drop count bytes.now }
 {
@@ -136,7 +136,7 @@ fn escaped_unit(rest: &[u8]) -> u32
     }
 }
 
-/// What stands at the front of a string's bytes: a character or an escape.
+/// The character or escape at the front of a string's bytes.
 pub(crate) fn spelt_at(first: u8, rest: &[u8]) -> Spelt
     ensures units { units_in result ≡ char_units InText first rest.now }
     ensures more { result.more ≡ char_more InText first rest.now }
@@ -153,7 +153,7 @@ pub(crate) fn spelt_at(first: u8, rest: &[u8]) -> Spelt
     }
 }
 
-/// What stands at the front of the bytes of a pointer's token: a character, or `~` with the digit behind it.
+/// The character at the front of the bytes of a pointer's token, or `~` with the digit after it.
 pub(crate) fn token_spelt_at(first: u8, rest: &[u8]) -> Spelt
     ensures units { units_in result ≡ char_units InToken first rest.now }
     ensures more { result.more ≡ char_more InToken first rest.now }

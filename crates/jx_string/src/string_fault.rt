@@ -13,7 +13,7 @@ pub enum StringFault {
     /// One of its code units is half of a surrogate pair without the other half, so no UTF-8 stands for it (section 8.2).
     #[error("a lone surrogate")]
     LoneSurrogate,
-    /// A growth of memory was refused.
+    /// An allocation failed.
     #[error("out of memory")]
     Memory,
 }

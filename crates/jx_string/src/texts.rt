@@ -28,7 +28,7 @@ fn text_in(alloc: Global, string: &[u8]) -> Result<Option<String>, AllocError>
     ensures { IfOk result (λ text. IsTextIn string.now text) }
 {
     let mut characters = Characters::of_string(string);
-    // No character takes more bytes than what spells it.
+    // No character takes more bytes than what encodes it.
     let mut text = String::with_capacity(alloc, string.len())?;
     while let Some(character) = characters.next_character() {
         let Some(character) = character else {
@@ -39,8 +39,8 @@ fn text_in(alloc: Global, string: &[u8]) -> Result<Option<String>, AllocError>
     Ok(Some(text))
 }
 
-/// What a string stands for (RFC 8259, section 7), in UTF-8: the characters whose UTF-16 code units are its own. A string that
-/// has half of a surrogate pair without the other half stands for no such characters.
+/// The value of a string (RFC 8259, section 7) in UTF-8: the characters whose UTF-16 code units are its own. A string
+/// that has half of a surrogate pair without the other half has no such characters.
 pub fn unescaped(alloc: Global, string: &[u8]) -> Result<Vec<u8>, StringFault>
     ensures value { (units : List ℕ) → IsString string.now units → IfOk result (λ text. utf8_of units ≡ Some text.items) }
     ensures string { (units : List ℕ) → IsString string.now units → IfErr result (λ fault. fault ≢ NoString) }

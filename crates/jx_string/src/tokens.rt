@@ -21,8 +21,8 @@ fn push_some(units: &mut Vec<u32>, unit: Option<u32>) -> Result<(), AllocError>
     Ok(())
 }
 
-/// The UTF-16 code units that a token of a pointer spells (RFC 6901, section 4), by its bytes: `~0` stands for `~`, and `~1` for
-/// a slash. `Err` where memory is refused.
+/// The UTF-16 code units that a token of a pointer encodes (RFC 6901, section 4), by its bytes: `~0` stands for `~`,
+/// and `~1` for a slash. `Err` when out of memory.
 pub fn token_units(alloc: Global, token: &[u8]) -> Result<Vec<u32>, AllocError>
     ensures { IfOk result (λ units. units.items ≡ chars_units InToken 0 token.now) }
 {

@@ -1,5 +1,5 @@
-//! What the book, its workers and the claims know of reading: spans, a depth, and summaries of parts of a text that can
-//! be joined with their neighbours'.
+//! What accumulators, workers and chunk queues know of reading: spans, a depth, and summaries of parts of a text that
+//! can be joined with their neighbours'.
 #![tactic(auto)]
 
 mod depth;

@@ -1,4 +1,4 @@
-// What reading part of a text gives, and how neighbours are joined.
+// Summaries of parts of a text, and how neighbours are joined.
 ghost use Rattle.std.specs.Prelude.{◌≡◌, ℕ, List, ◌≤◌, ◌++◌, length, slice_range, IfOk, IfErr};
 
 use crate::depth::Depth;
@@ -6,7 +6,7 @@ use crate::join_fault::JoinFault;
 use crate::span::Span;
 use std::alloc::{AllocError, Global};
 
-/// What reading part of a text gives, with no knowledge of what stands to its left.
+/// The result of reading part of a text, with no knowledge of the bytes to its left.
 ///
 /// The join of the summaries of two neighbours is the summary of their joined bytes, so summaries may be joined in any
 /// order.
@@ -23,7 +23,7 @@ pub trait Summary: Drop {
     /// It is the summary of exactly these bytes.
     ghost is_of: { Self → List ℕ → Type 0 };
 
-    /// Reads the bytes from `start` up to `end`, with `limit` as its depth; `Err` where memory is refused.
+    /// Reads the bytes from `start` up to `end`, with `limit` as its depth; `Err` when out of memory.
     fn of(
         alloc: Global,
         text: &[u8],
@@ -37,7 +37,7 @@ pub trait Summary: Drop {
         ensures depth { IfOk result (λ r. depth r ≡ limit) }
         ensures of { IfOk result (λ r. is_of r (slice_range text.now start end)) };
 
-    /// Joins with the neighbour to the right; where memory is refused, both are handed back as they were.
+    /// Joins with the neighbour to the right; when out of memory, both are handed back as they were.
     fn join(self, right: Self) -> Result<Self, JoinFault<Self>>
         requires neighbours { (span self).end ≡ (span right).start }
         requires depth { depth self ≡ depth right }

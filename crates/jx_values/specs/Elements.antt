@@ -1,4 +1,4 @@
--- What a report on the elements of a text does to the bytes of its ends.
+-- A report on the elements of a text from a reader to two writers, by their bytes.
 use Rattle.std.specs.Prelude.{◌≡◌, ℕ, List, [], ◌++◌, length, codes, decimal, Option, Bool, false, Result, Ok, Err}
 use Rattle.std.specs.Io.KnownBytes.{Appends, Consumes}
 use Rattle.jx_run.specs.declared.texts.settings.Settings.{Settings}
@@ -69,7 +69,7 @@ TellsByVerdict content settings pointer input Accepted tells =
     (tree : Tree) × IsDocumentBy settings 0 input tree × (tells ≡ told_of_found content (found_of (led input tree (tokens pointer))) (length (tokens pointer)))
 TellsByVerdict content settings pointer input (Refused refusal) tells = tells ≡ codes "jx: " ++ line (refusal_words refusal)
 
--- the whole output for an input, all that is told of it, and the exit
+-- the whole output for an input, all that is reported of it, and the status
 pub record ElementsOutput (content : LineContent) (settings : Settings) (pointer input output tells : List ℕ) (exit : Exit) : Type 0 where
   pub due : IsDueBy content settings pointer input output
   pub verdict : Verdict
@@ -79,7 +79,8 @@ pub record ElementsOutput (content : LineContent) (settings : Settings) (pointer
 
 -- ---- of the ends
 
--- the reader gave all that it had, the writer got the whole output for it, and what is told was told unless telling failed
+-- the reader gave all that it had, the writer got the whole output for it, and the report was written unless reporting
+-- failed
 pub record ReportsElements (content : LineContent) (settings : Settings) (pointer : List ℕ) (unread left written grown : Option (List ℕ)) (is_lost : Bool) (told retold : Option (List ℕ)) (exit : Exit) : Type 0 where
   pub text : List ℕ
   pub output : List ℕ

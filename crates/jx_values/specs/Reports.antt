@@ -1,4 +1,4 @@
--- What a report on values does to the bytes of its ends.
+-- A report on values from a reader to two writers, by their bytes.
 use Rattle.std.specs.Prelude.{◌≡◌, ℕ, ◌<◌, List, length, Option, Bool, false}
 use Rattle.std.specs.Io.KnownBytes.{Appends}
 use Rattle.jx_task.specs.declared.values_task.ValuesTask.{ValuesTask}
@@ -8,7 +8,8 @@ use Rattle.jx_report.specs.Reports.{IsAnswered, greatest_length}
 use Rattle.jx_values.specs.declared.form.Form.{Form}
 use Rattle.jx_values.specs.Values.{ValuesOutput}
 
--- the reader gave all that it had, the writer got the whole output for it, and what is told was told unless telling failed
+-- the reader gave all that it had, the writer got the whole output for it, and the report was written unless reporting
+-- failed
 pub record ReportsValues (form : Form) (task : ValuesTask) (unread left written grown : Option (List ℕ)) (is_lost : Bool) (told retold : Option (List ℕ)) (exit : Exit) : Type 0 where
   pub output : List ℕ
   pub tells : List ℕ
@@ -24,7 +25,7 @@ pub record ReportsValuesInPart (form : Form) (task : ValuesTask) (unread left wr
   pub answered : IsAnswered (λ text output exit. ValuesOutput form task text output tells exit) task.piece unread left output exit
   pub wrote : AppendsBeginning written grown output
 
--- the reader gave all that it had, and that makes more pieces than there may be
+-- the reader gave all that it had, and that makes more chunks than there may be
 pub record IsTooLong (piece : ℕ) (unread left : Option (List ℕ)) : Type 0 where
   pub text : List ℕ
   pub read : ReadsToEnd unread left text

@@ -1,4 +1,4 @@
--- What is written and told for pointers into a text (RFC 6901).
+-- The lines that are written and reported for pointers into a text (RFC 6901).
 use Rattle.std.specs.Prelude.{◌≡◌, ℕ, Bool, true, false, ◌&&◌, List, [], ◌∷◌, ◌++◌, Option, Some, None, codes, flat_map, if◌then◌else◌, map, slice_range, string_bytes, unwrap_or}
 use Rattle.std.specs.List.{AllZip}
 use Rattle.jx_lex.specs.declared.kind.Kind.{Kind}
@@ -54,12 +54,12 @@ value_line form text answer = line (unwrap_or (written form text answer) [])
 abbrev pub told_words : List ℕ → List ℕ → List ℕ
 told_words pointer words = codes "jx: " ++ pointer ++ codes ": " ++ line words
 
--- what is told of a value by what is written for it
+-- the report on a value by what is written for it
 abbrev pub told_of_value : List ℕ → Option (List ℕ) → List ℕ
 told_of_value pointer (Some bytes) = []
 told_of_value pointer None = told_words pointer (codes "half a surrogate pair")
 
--- what is told of a pointer: nothing where something is written for it, or why nothing is
+-- the report on a pointer: nothing where something is written for it, or why nothing is
 abbrev pub told_line : Form → List ℕ → List ℕ → PointerAnswer → List ℕ
 told_line form text pointer (Found kind span) = told_of_value pointer (written form text (Found kind span))
 told_line form text pointer (Unread fault) = told_words pointer (answer_words (Unread fault))
@@ -73,12 +73,12 @@ told_lines form text [] answers = []
 told_lines form text (pointer ∷ pointers) [] = []
 told_lines form text (pointer ∷ pointers) (answer ∷ answers) = told_line form text pointer answer ++ told_lines form text pointers answers
 
--- good where nothing is told
+-- good where nothing is reported
 abbrev pub exit_by : List ℕ → Exit
 exit_by [] = Good
 exit_by (byte ∷ tells) = Bad
 
--- for a text: a line for each pointer is written, and what is told of those for which nothing is written
+-- for a text: a line for each pointer is written, and the report on those for which nothing is written
 pub record GivesValues (form : Form) (task : ValuesTask) (text output tells : List ℕ) : Type 0 where
   pub tree : Tree
   pub is_text : IsDocumentBy task.settings 0 text tree
@@ -87,7 +87,7 @@ pub record GivesValues (form : Form) (task : ValuesTask) (text output tells : Li
   pub written : output ≡ flat_map (value_line form text) answers
   pub told : tells ≡ told_lines form text (map string_bytes task.pointers.items) answers
 
--- for what is refused: nothing is written, and jx: VERDICT is told
+-- for what is refused: nothing is written, and jx: VERDICT is reported
 pub record GivesNone (refusal : Refusal) (output tells : List ℕ) : Type 0 where
   pub written : output ≡ []
   pub told : tells ≡ codes "jx: " ++ line (refusal_words refusal)
@@ -96,7 +96,7 @@ abbrev pub GivesByVerdict : Form → ValuesTask → List ℕ → Verdict → Lis
 GivesByVerdict form task input Accepted output tells = GivesValues form task input output tells
 GivesByVerdict form task input (Refused refusal) output tells = GivesNone refusal output tells
 
--- the whole output for an input, all that is told of it, and the exit
+-- the whole output for an input, all that is reported of it, and the status
 pub record ValuesOutput (form : Form) (task : ValuesTask) (input output tells : List ℕ) (exit : Exit) : Type 0 where
   pub verdict : Verdict
   pub is_verdict : IsVerdictBy task.settings input verdict

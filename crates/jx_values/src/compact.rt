@@ -10,7 +10,7 @@ use jx_ends::{ReportFault, Sink, write_whole};
 /// How many bytes of a value are made compact at a time. The buffer has room for as many.
 pub(crate) const CHUNK: usize = 4096;
 
-/// Writes what waits in the buffer, unless there is room for a chunk behind it.
+/// Writes what waits in the buffer, unless there is room for a chunk after it.
 fn make_room<W: Sink>(writer: &mut W, out: &mut Vec<u8>) -> Result<(), ReportFault>
     requires unfailed { W.has_failed writer.old ≡ false }
     requires large { CHUNK ≤ vec_capacity out.old }
@@ -27,7 +27,7 @@ fn make_room<W: Sink>(writer: &mut W, out: &mut Vec<u8>) -> Result<(), ReportFau
     Ok(())
 }
 
-/// Writes what stays of a chunk, whose first byte stands there, and answers where the byte behind it stands.
+/// Writes what stays of a chunk, whose first byte stands there, and answers where the byte after it stands.
 fn put_chunk<W: Sink>(
     writer: &mut W,
     out: &mut Vec<u8>,
@@ -48,7 +48,7 @@ fn put_chunk<W: Sink>(
     Ok(compact_onto(out, place, chunk))
 }
 
-/// Writes the compact form of a value behind what waits in the buffer. Its last bytes may be left there.
+/// Writes the compact form of a value after what waits in the buffer. Its last bytes may be left there.
 pub(crate) fn put_compact<W: Sink>(
     writer: &mut W,
     out: &mut Vec<u8>,

@@ -22,8 +22,8 @@ const STEP: usize = 256 * 1024;
 /// The same where several workers share them.
 const SHARED_STEP: usize = 4 * 1024 * 1024;
 
-/// Takes a batch behind what was read, and writes the lines that are due then. Memory is refused too where the last byte has
-/// no offset.
+/// Takes a batch after what was read, and writes the lines that are due then. It is also out of memory where the last
+/// byte has no offset.
 fn write_due<R: Threads + Wait + Sync, W: Sink, G: Gate + Sync>(
     crew: &Crew<'_, R, G>,
     writer: &mut W,
@@ -106,20 +106,21 @@ fn room_for<R, G>(crew: &Crew<'_, R, G>) -> usize
     }
 }
 
-/// Reads to the end of input, and writes a line for each element of the array that a pointer leads to, by the first member of
-/// each of its names (RFC 6901, section 4), or for the value of each member of the object: its compact form. Where `content` asks
-/// for names, it writes a line for each member of an object alone. Each line is written before the next read may wait. Behind
-/// that it tells why the input is no text, by a line `jx: VERDICT`, or why the pointer leads to no container, or to no object
-/// where names are asked for, by a line `jx: ANSWER`. A name on its way that is repeated is told too. The exit is good where
-/// nothing is told.
+/// Reads to the end of input, and writes a line for each element of the array that a pointer leads to, by the first
+/// member of each of its names (RFC 6901, section 4), or for the value of each member of the object: its compact form.
+/// Where `content` asks for names, it writes a line for each member of an object alone. Each line is written before the
+/// next read may wait. After that it reports why the input is not valid JSON, by a line `jx: VERDICT`, or why the
+/// pointer leads to no container, or to no object where names are asked for, by a line `jx: ANSWER`. A name on its way
+/// that is repeated is reported too. The status is good where nothing is reported.
 ///
-/// What is written is never taken back: of a refused input the lines are those of the elements whose comma or bracket stands
-/// before the first fault. One batch and one element or name are held. The names of the settings are of no account: objects may
-/// repeat them. Where telling fails, no more is told, and the exit is the same.
+/// A written line is never taken back: of a refused input the lines are those of the elements whose comma or bracket is
+/// before the first fault. One batch and one element or name are kept. The names of the settings are ignored: objects
+/// may repeat them. Where reporting fails, no more is reported, and the status is the same.
 ///
-/// Several workers share what one read gives, where that is a MiB or more or the gate is asked: they read it by pieces of so many
-/// bytes, and make its lines. Where the pointer has tokens or names are asked for, one of them looks the pointer up. The gate is
-/// asked as pieces are read. For every number of workers, every piece and every gate the output is the same.
+/// Several workers share what one read gives, where that is a MiB or more or the gate is asked: they read it by chunks
+/// of so many bytes, and make its lines. Where the pointer has tokens or names are asked for, one of them looks the
+/// pointer up. The gate is asked as chunks are read. For every number of workers, every chunk and every gate the output
+/// is the same.
 pub fn report_elements<R: Threads + Wait + Sync, S: Source, W: Sink, E: Sink, G: Gate + Sync>(
     crew: &Crew<'_, R, G>,
     reader: &mut S,
@@ -138,7 +139,7 @@ pub fn report_elements<R: Threads + Wait + Sync, S: Source, W: Sink, E: Sink, G:
         (W.contents writer.old) (W.contents writer.new) (E.has_failed errors.new) (E.contents errors.old) (E.contents errors.new) exit) }
     ensures read { IsErrOf result ReportFault.Read ↔ (S.has_failed reader.new ≡ true) }
     ensures write { IsErrOf result ReportFault.Write ↔ (W.has_failed writer.new ≡ true) }
-    // After each fault nothing was told.
+    // After each fault nothing was reported.
     ensures untold { OnErr result (errors.new ≡ errors.old) }
     // After a read fault what is due of the bytes read was written, after a refusal of memory whole lines of that, and after a
     // write fault a beginning of it.

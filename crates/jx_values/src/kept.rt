@@ -23,7 +23,8 @@ impl Kept {
         }
     }
 
-    /// Takes in what is wanted of a batch behind so many bytes. What was kept is let go where none of it is wanted any more.
+    /// Takes in what is wanted of a batch after so many bytes. What was kept is freed where none of it is wanted any
+    /// more.
     pub(crate) fn keep(&mut self, batch: &[u8], base: usize, wanted: Span) -> Result<(), AllocError>
         requires { base + length batch.now < 2 ^ 64 }
         ensures { OnOk result ((text : List ℕ) → length text ≡ base → IsKept text self.old.from self.old.bytes.items

@@ -16,7 +16,7 @@ fn add(out: &mut Vec<u8>, bytes: &[u8])
     }
 }
 
-/// Writes bytes behind what waits in the buffer. They wait there too where there is room for them.
+/// Writes bytes after what waits in the buffer. They wait there too where there is room for them.
 pub(crate) fn put<W: Sink>(
     writer: &mut W,
     out: &mut Vec<u8>,

@@ -12,7 +12,7 @@ use crate::putting::put;
 use jx_ends::{ReportFault, Sink};
 use jx_string::{Characters, has_text};
 
-/// Writes the UTF-8 of a character behind what waits in the buffer.
+/// Writes the UTF-8 of a character after what waits in the buffer.
 fn put_character<W: Sink>(
     writer: &mut W,
     out: &mut Vec<u8>,
@@ -29,7 +29,8 @@ fn put_character<W: Sink>(
     put(writer, out, character.encode_utf8(&mut bytes).as_bytes())
 }
 
-/// Writes the characters of a string behind what waits in the buffer, and U+FFFD for each half of a surrogate pair alone.
+/// Writes the characters of a string after what waits in the buffer, and U+FFFD for each half of a surrogate pair
+/// alone.
 fn put_characters<W: Sink>(
     writer: &mut W,
     out: &mut Vec<u8>,
@@ -50,7 +51,7 @@ fn put_characters<W: Sink>(
     Ok(())
 }
 
-/// Writes the text of a string behind what waits in the buffer, or nothing where it has none.
+/// Writes the text of a string after what waits in the buffer, or nothing where it has none.
 pub(crate) fn put_text<W: Sink>(
     writer: &mut W,
     out: &mut Vec<u8>,

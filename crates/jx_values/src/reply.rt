@@ -13,12 +13,12 @@ use jx_words::PointerAnswer;
 use std::sync::Wait;
 use std::thread::Threads;
 
-/// What an input is answered with, before it is written.
+/// The reply to an input, before it is written.
 #[derive(Debug, Drop)]
 pub struct Reply {
-    /// What each pointer comes to; of a refused text none.
+    /// The answer to each pointer; of a refused text none.
     pub answers: Vec<PointerAnswer>,
-    /// What is told.
+    /// The report.
     pub told: Vec<u8>,
 }
 

@@ -69,7 +69,7 @@ fn look_up_all<S: Source>(
     Err(ReportFault::Memory)
 }
 
-/// Whether so many bytes make no more pieces than there may be.
+/// Whether so many bytes make no more chunks than there may be.
 fn count_pieces(len: usize, piece: usize) -> Result<(), ReportFault>
     requires { 1 ≤ piece }
     ensures few { IfOk result (λ _. len ≤ greatest_length piece) }
@@ -83,7 +83,7 @@ fn count_pieces(len: usize, piece: usize) -> Result<(), ReportFault>
     Ok(())
 }
 
-/// Reads to the end of input, and answers the only pointer of a task, while what is read is let go but for its value.
+/// Reads to the end of input, and answers the only pointer of a task, while what is read is freed but for its value.
 fn held_for_one<S: Source>(
     alloc: Global,
     reader: &mut S,
@@ -149,16 +149,16 @@ fn held_for<R: Threads + Wait + Sync, S: Source, G: Gate + Sync>(
     }
 }
 
-/// Reads to the end of input, looks pointers up in it, and writes a line for each, in their order: the bytes of its value, their
-/// compact form, or where texts are asked for that of a string. The line is empty where there is none of these. Behind that it
-/// tells why, by a line `jx: POINTER: ANSWER`. Of a text that is refused nothing is written, and `jx: VERDICT` is told. The exit is
-/// good where nothing is told.
+/// Reads to the end of input, looks pointers up in it, and writes a line for each, in their order: the bytes of its
+/// value, their compact form, or where texts are asked for that of a string. The line is empty where there is none of
+/// these. After that it reports why, by a line `jx: POINTER: ANSWER`. Of a text that is refused nothing is written, and
+/// `jx: VERDICT` is reported. The status is good where nothing is reported.
 ///
-/// The text is held, or of a single pointer its value while it is read, where objects may have any names. Values are written from
-/// where they stand in it. No memory is taken once the first byte is written.
-/// Where telling fails, no more is told, and the exit is the same. Many pointers are looked up in an index by the workers. Where
-/// names have to be unique and pointers are few, the workers judge the text first. They ask the gate; a thread that reads alone
-/// asks nothing.
+/// The text is kept, or of a single pointer its value while it is read, where objects may have any names. Values are
+/// written from where they stand in it. No memory is taken once the first byte is written. Where reporting fails, no
+/// more is reported, and the status is the same. Many pointers are looked up in an index by the workers. Where names
+/// have to be unique and pointers are few, the workers judge the text first. They ask the gate; a thread that reads
+/// alone asks nothing.
 pub fn report_values<R: Threads + Wait + Sync, S: Source, W: Sink, E: Sink, G: Gate + Sync>(
     rt: &R,
     alloc: Global,
@@ -177,13 +177,13 @@ pub fn report_values<R: Threads + Wait + Sync, S: Source, W: Sink, E: Sink, G: G
         (W.contents writer.old) (W.contents writer.new) (E.has_failed errors.new) (E.contents errors.old) (E.contents errors.new) exit) }
     ensures read { IsErrOf result ReportFault.Read ↔ (S.has_failed reader.new ≡ true) }
     ensures write { IsErrOf result ReportFault.Write ↔ (W.has_failed writer.new ≡ true) }
-    // After any other fault the writer is as it was, and after each fault nothing was told.
+    // After any other fault the writer is as it was, and after each fault nothing was reported.
     ensures unwritten { IfErr result (λ fault. fault ≢ ReportFault.Write → writer.new ≡ writer.old) }
     ensures untold { OnErr result (errors.new ≡ errors.old) }
     // After a write fault all was read, and a beginning of its output was written.
     ensures beginning { IsErrOf result ReportFault.Write → ReportsValuesInPart form task.now (S.remaining reader.old)
         (S.remaining reader.new) (W.contents writer.old) (W.contents writer.new) }
-    // Pieces are too many only where all was read, and it has more of them than there may be.
+    // Chunks are too many only where all was read, and it has more of them than there may be.
     ensures pieces { IsErrOf result ReportFault.Pieces → IsTooLong task.now.piece (S.remaining reader.old)
         (S.remaining reader.new) }
 {

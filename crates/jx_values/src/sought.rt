@@ -1,4 +1,4 @@
-// What the pointer to a container leads to, looked up while elements are written, and what is told of it.
+// The answer to the pointer to a container, looked up while elements are written, and the report on it.
 ghost use Rattle.std.specs.Prelude.{◌≡◌, ◌++◌, ◌∷◌, [], ℕ, List, IfOk, OnOk, slice_get};
 ghost use Rattle.jx_run.specs.declared.texts.settings.Settings.{Settings};
 ghost use Rattle.jx_run.specs.Settings.{JudgedBy};
@@ -19,10 +19,11 @@ use jx_run::{NameRule, Settings, Verdict};
 use jx_words::{PointerAnswer, add_answer, add_number};
 use std::alloc::{AllocError, Global};
 
-/// The look-up of a pointer in the bytes that are read, where it has tokens: what its root comes to is told without one.
+/// The look-up of a pointer in the bytes that are read, where it has tokens: what its root leads to is reported without
+/// one.
 pub(crate) type Sought<'p> = Option<Finder<'p>>;
 
-/// What is told of a text in which a pointer of so many tokens leads to a value of this kind.
+/// The report on a text in which a pointer of so many tokens leads to a value of this kind.
 fn told_of_kind(alloc: Global, kind: Kind, tokens: usize) -> Result<Vec<u8>, AllocError>
     ensures { IfOk result (λ told. told.items ≡ told_of_kind kind tokens) }
 {
@@ -46,7 +47,7 @@ fn told_of_named(alloc: Global, kind: Kind, tokens: usize) -> Result<Vec<u8>, Al
     }
 }
 
-/// What is told of a pointer of so many tokens that leads to no object.
+/// The report on a pointer of so many tokens that leads to no object.
 fn told_of_no_object(alloc: Global, tokens: usize) -> Result<Vec<u8>, AllocError>
     ensures { IfOk result (λ told. told.items ≡ told_of_no_object tokens) }
 {
@@ -57,7 +58,7 @@ fn told_of_no_object(alloc: Global, tokens: usize) -> Result<Vec<u8>, AllocError
     Ok(told)
 }
 
-/// What is told of a value of this kind by what a line has, where so many tokens lead to it.
+/// The report on a value of this kind by what a line has, where so many tokens lead to it.
 fn told_of_value(
     alloc: Global,
     content: LineContent,
@@ -72,7 +73,7 @@ fn told_of_value(
     }
 }
 
-/// What is told of a pointer that leads to no container.
+/// The report on a pointer that leads to no container.
 fn told_of_fault(alloc: Global, fault: FindFault) -> Result<Vec<u8>, AllocError>
     ensures { IfOk result (λ told. told.items ≡ told_of_fault fault) }
 {
@@ -81,7 +82,7 @@ fn told_of_fault(alloc: Global, fault: FindFault) -> Result<Vec<u8>, AllocError>
     Ok(told)
 }
 
-/// What is told of a text in which a pointer of so many tokens has this answer.
+/// The report on a text in which a pointer of so many tokens has this answer.
 fn told_of_found(
     alloc: Global,
     content: LineContent,
@@ -96,7 +97,7 @@ fn told_of_found(
     }
 }
 
-/// What is told of a text that is a container, or none.
+/// The report on a text that is a container, or none.
 fn told_of_root(alloc: Global, is_container: bool) -> Result<Vec<u8>, AllocError>
     ensures { IfOk result (λ told. told.items ≡ told_of_root is_container) }
 {
@@ -117,7 +118,7 @@ pub(crate) fn first_of(found: &[Result<Found, FindFault>]) -> Option<Result<Foun
     }
 }
 
-/// What is told of a text in which one pointer of so many tokens was looked up.
+/// The report on a text in which one pointer of so many tokens was looked up.
 fn told_of_sought(
     alloc: Global,
     content: LineContent,
@@ -142,7 +143,7 @@ pub(crate) fn verdict_of(each: &Each) -> Verdict
     each.reader().verdict()
 }
 
-/// What is told of an input with this verdict, where what a maker of lines took of it is a text.
+/// The report on an input with this verdict, where what a maker of lines took of it is a text.
 pub(crate) fn told_of_elements(
     alloc: Global,
     content: LineContent,
@@ -223,7 +224,7 @@ pub(crate) fn sought_at_start<'p>(
     Ok(Some(finder))
 }
 
-/// Looks up in a batch behind what was read. Memory is refused too where the last byte has no offset.
+/// Looks up in a batch after what was read. It is also out of memory where the last byte has no offset.
 pub(crate) fn seek(sought: &mut Sought<'_>, batch: &[u8]) -> Result<(), AllocError>
     ensures { OnOk result ((content : LineContent) (settings : Settings) (pointer bytes : List ℕ) → HasSought content settings pointer bytes sought.old → HasSought content settings pointer (bytes ++ batch.now) sought.new) }
 {

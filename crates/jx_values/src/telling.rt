@@ -1,4 +1,4 @@
-// What is told of a text, or of pointers for which nothing is written.
+// The report on a text, or of pointers for which nothing is written.
 ghost use Rattle.std.specs.Prelude.{◌≡◌, ◌<◌, ◌++◌, Some, false, codes, length, map, slice_get, string_bytes, IfOk, OnOk};
 ghost use Rattle.std.specs.Io.KnownBytes.{Appends};
 ghost use Rattle.jx_words.specs.Words.{line, refusal_words};
@@ -12,7 +12,7 @@ use jx_run::Refusal;
 use jx_words::{PointerAnswer, add_answer, add_refusal};
 use std::alloc::{AllocError, Global};
 
-/// What is told of a text that is refused.
+/// The report on a text that is refused.
 pub(crate) fn told_of_refusal(alloc: Global, refusal: Refusal) -> Result<Vec<u8>, AllocError>
     ensures { IfOk result (λ told. told.items ≡ codes "jx: " ++ line (refusal_words refusal)) }
 {
@@ -30,7 +30,7 @@ fn add_front(told: &mut Vec<u8>, pointer: &str) -> Result<(), AllocError>
     told.extend_from_slice(b": ")
 }
 
-/// Appends what is told of a value of this kind: nothing where it is written, or why it is not.
+/// Appends the report on a value of this kind: nothing where it is written, or why it is not.
 fn add_told_of_value(
     told: &mut Vec<u8>,
     form: Form,
@@ -47,7 +47,7 @@ fn add_told_of_value(
     told.extend_from_slice(b"half a surrogate pair\n")
 }
 
-/// Appends what is told of a pointer with this answer in a text.
+/// Appends the report on a pointer with this answer in a text.
 pub fn add_told(
     told: &mut Vec<u8>,
     form: Form,
@@ -68,7 +68,7 @@ pub fn add_told(
     }
 }
 
-/// The pointer with this number, counted from 0, as it was spelt.
+/// The pointer with this number, counted from 0, as it was written.
 fn pointer_at(pointers: &[String], number: usize) -> &str
     requires { number < length pointers.now }
     ensures { slice_get (map string_bytes pointers.now) number ≡ Some result.now }
@@ -84,7 +84,7 @@ pub(crate) fn answer_at(answers: &[PointerAnswer], number: usize) -> PointerAnsw
     answers[number]
 }
 
-/// What is told of pointers with these answers, in their order.
+/// The report on pointers with these answers, in their order.
 pub(crate) fn told_of_answers(
     alloc: Global,
     form: Form,
@@ -108,7 +108,7 @@ pub(crate) fn told_of_answers(
     Ok(told)
 }
 
-/// Tells what there is to tell, unless telling has failed before. Where telling fails, no more is told.
+/// Writes the report, unless reporting has failed before. Where reporting fails, no more is reported.
 pub fn tell<E: Sink>(errors: &mut E, told: &[u8])
     ensures { E.has_failed errors.new ≡ false → Appends (E.contents errors.old) (E.contents errors.new) told.now }
 {
@@ -117,7 +117,7 @@ pub fn tell<E: Sink>(errors: &mut E, told: &[u8])
     }
 }
 
-/// Good where nothing is told.
+/// Good where nothing is reported.
 pub fn exit_by(told: &[u8]) -> Exit
     ensures { result ≡ exit_by told.now }
 {

@@ -73,7 +73,7 @@ fn answer_here(kept: &Kept, found: Result<Found, FindFault>) -> Option<PointerAn
     }
 }
 
-/// What is held of a text that is refused.
+/// The state kept of a text that is refused.
 fn held_of_refusal(alloc: Global, refusal: Refusal) -> Result<Held, AllocError>
     ensures { IfOk result (λ held. (held.reply.answers.items ≡ []) × (held.reply.told.items ≡ codes "jx: " ++ line (refusal_words refusal))) }
 {
@@ -85,7 +85,7 @@ fn held_of_refusal(alloc: Global, refusal: Refusal) -> Result<Held, AllocError>
     })
 }
 
-/// What is held of a text with this answer, whose span is among the bytes that are kept.
+/// The state kept of a text with this answer, whose span is among the bytes that are kept.
 fn held_of_answer(
     alloc: Global,
     form: Form,
@@ -133,7 +133,7 @@ impl<'p> ValueReader<'p> {
         self.finder.end()
     }
 
-    /// Reads a batch behind what was read. Memory is refused too where the last byte has no offset.
+    /// Reads a batch after what was read. It is also out of memory where the last byte has no offset.
     pub(crate) fn read(&mut self, batch: &[u8]) -> Result<(), AllocError>
         ensures { OnOk result ((settings : Settings) (pointer text : List ℕ) → IsValueRead settings pointer text self.old
             → IsValueRead settings pointer (text ++ batch.now) self.new) }
@@ -147,7 +147,7 @@ impl<'p> ValueReader<'p> {
         self.kept.keep(batch, base, wanted)
     }
 
-    /// What is held of the text that was read, for the pointer.
+    /// The state kept of the text that was read, for the pointer.
     pub(crate) fn into_held(self, form: Form, pointer: &str) -> Result<Held, AllocError>
         requires { IsPointer pointer.now }
         ensures { IfOk result (λ held. (task : ValuesTask) (text : List ℕ) → map string_bytes task.pointers.items ≡ pointer.now ∷ []

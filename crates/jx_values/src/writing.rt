@@ -16,7 +16,7 @@ use jx_lex::Kind;
 use jx_words::PointerAnswer;
 use std::alloc::Global;
 
-/// Writes the bytes of a value, or their compact form, behind what waits in the buffer.
+/// Writes the bytes of a value, or their compact form, after what waits in the buffer.
 fn put_formed<W: Sink>(
     writer: &mut W,
     out: &mut Vec<u8>,
@@ -38,7 +38,8 @@ fn put_formed<W: Sink>(
     }
 }
 
-/// Writes a value of this kind behind what waits in the buffer: nothing for a string without a text, where texts are asked for.
+/// Writes a value of this kind after what waits in the buffer: nothing for a string without a text, where texts are
+/// asked for.
 fn put_value<W: Sink>(
     writer: &mut W,
     out: &mut Vec<u8>,
@@ -61,7 +62,7 @@ fn put_value<W: Sink>(
     }
 }
 
-/// Writes what is to be written for a pointer with this answer behind what waits in the buffer.
+/// Writes what is to be written for a pointer with this answer after what waits in the buffer.
 fn put_answer<W: Sink>(
     writer: &mut W,
     out: &mut Vec<u8>,
@@ -85,7 +86,7 @@ fn put_answer<W: Sink>(
     }
 }
 
-/// Writes the line of a pointer with this answer behind what waits in the buffer. Its end may be left there.
+/// Writes the line of a pointer with this answer after what waits in the buffer. Its end may be left there.
 fn put_line<W: Sink>(
     writer: &mut W,
     out: &mut Vec<u8>,

@@ -1,4 +1,4 @@
--- Where the chunks of a text stand, as an index tells.
+-- Where an index has the chunks of a text.
 use Rattle.std.specs.Prelude.{ℕ, ◌+◌, ◌*◌, min, nat_lt, Option, None, Some, if◌then◌else◌}
 use Rattle.jx_summary.specs.declared.span.Span.{Span}
 use Rattle.jx_run.specs.Tree.{span}

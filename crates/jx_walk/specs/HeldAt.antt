@@ -1,4 +1,4 @@
--- What is held of the first bytes of a text.
+-- The state after the first bytes of a text.
 use Rattle.std.specs.Prelude.{◌≡◌, ℕ, ◌*◌, List, is_some, take}
 use Rattle.jx_lex.specs.TokenStates.{in_token}
 use Rattle.jx_run.specs.declared.texts.settings.Settings.{Settings}
@@ -8,7 +8,7 @@ use Rattle.jx_find.specs.declared.held.Sought.{Sought}
 use Rattle.jx_find.specs.Held.{IsHeld}
 use Rattle.jx_saved.specs.Chunks.{before, state_behind}
 
--- of so many; a token is held just where their reading stands inside one
+-- of so many; a token is kept just where their reading stands inside one
 pub record IsHeldTo (settings : Settings) (text : List ℕ) (edges : List Edge) (count : ℕ) (h : Sought) : Type 0 where
   pub held : IsHeld (take count text) edges (tokens_by settings.mark (take count text)).marks (tokens_by settings.mark (take count text)).ends h.state h.next h.begun h.name.items
   pub turn : is_some h.begun ≡ in_token (state_behind (before settings text count))

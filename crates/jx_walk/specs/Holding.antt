@@ -1,4 +1,4 @@
--- What a seeker holds of the open containers, beside all of them.
+-- The open containers that a seeker knows, beside all of them.
 use Rattle.std.specs.Prelude.{◌≡◌, ℕ, suc, List, [], ◌∷◌, Bool, true, false}
 use Rattle.jx_reduce.specs.declared.table.holder.Holder.{Holder}
 use Rattle.jx_reduce.specs.declared.table.holder.Holder.TheVariants.{Array, Object}

@@ -1,4 +1,4 @@
--- When a part of a text can be passed over in an object on the way, and what it comes to then.
+-- When a part of a text can be skipped in an object on the way, and the state then.
 use Rattle.std.specs.Prelude.{◌≡◌, ℕ, suc, zero, ◌+◌, ◌<◌, ◌≤◌, All, List, ◌∷◌, ◌++◌, Bool, true, false, Option, None, Some, is_some}
 use Rattle.jx_lex.specs.declared.alphabet.mark.Mark.{Mark}
 use Rattle.jx_lex.specs.declared.alphabet.mark.MarkKind.TheVariants as mark
@@ -60,7 +60,7 @@ InObject (suc skipped) begun e = Unit {0}
 InObject zero true e = begun_in_object e
 InObject zero false e = between_in_object e
 
--- a token that has begun, and where a colon is expected behind it, a string
+-- a token that has begun, and where a colon is expected after it, a string
 pub record IsBegun (skipped : ℕ) (e : Expect) (begun : Option Mark) : Type 0 where
   pub token : (m : Mark) → begun ≡ Some m → is_token m.kind ≡ true
   pub string : (m : Mark) → begun ≡ Some m → skipped ≡ 0 → e ≡ Colon → m.kind ≡ mark.String
@@ -81,7 +81,7 @@ pub record HasNoWanted (edges : List Edge) (node skipped : ℕ) (s : Sum) (names
   pub low : s.closed ≤ skipped
   pub unwanted : s.closed ≡ skipped → All (λ (units : List ℕ). child_at edges node units ≡ None) names
 
--- seeking by its marks and ends, and by whatever follows, is seeking by what follows
+-- seeking by its token starts and ends, and by whatever follows, is seeking by what follows
 pub record IsPassedAmong (text : List ℕ) (edges : List Edge) (last : ℕ) (ms : List Mark) (ends : List ℕ) (s : Sum) (before after : Option Mark) (e x : Expect) (gs : List Holder) (f : Finding) (c : Cursor) (outer : List Cursor) : Type 0 where
   pub count : ℕ
   pub skipped : ℕ

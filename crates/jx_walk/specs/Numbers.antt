@@ -1,4 +1,4 @@
--- The numbers of the names that a trie's edges ask for.
+-- The hashes of the names that a trie's edges ask for.
 use Rattle.std.specs.Prelude.{◌≡◌, ℕ, List, slice_get, Some}
 use Rattle.jx_index.specs.declared.trie.Edge.{Edge}
 use Rattle.jx_index.specs.inside.Trie.{edge_units}

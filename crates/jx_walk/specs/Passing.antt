@@ -1,4 +1,4 @@
--- When a part of a text can be passed over by a look-up, and what it comes to then.
+-- When a part of a text can be skipped by a look-up, and the state then.
 use Rattle.std.specs.Prelude.{◌≡◌, ℕ, suc, zero, ◌+◌, ◌-◌, ◌<◌, ◌≤◌, List, ◌∷◌, ◌++◌, Bool, true, false, Option, None}
 use Rattle.jx_lex.specs.declared.alphabet.mark.Mark.{Mark}
 use Rattle.jx_lex.specs.declared.alphabet.state.LexState.{LexState}
@@ -44,7 +44,8 @@ InArray _ = ⊥
 
 -- ---- a part
 
--- seeking by the marks and ends of a part, and by whatever follows, is seeking by what follows from another finding on
+-- seeking by the token starts and ends of a part, and by whatever follows, is seeking by what follows from another
+-- finding on
 abbrev pub ComesOver : List ℕ → List Edge → ℕ → Track → Bool → Option Mark → Finding → Finding → Type 0
 ComesOver text edges last part after begun f g = (more : List Mark) (others : List ℕ)
     → seek_all text edges last (behind begun (part.marks ++ more)) (part.ends ++ others) f ≡ seek_all text edges last (behind (waiting after) more) others g
@@ -71,7 +72,7 @@ IsPassedInArray = (text : List ℕ) (edges : List Edge) (last at depth : ℕ) (p
     → ((place : ℕ) → c.count ≤ place → place < c.count + (sum_of (lexical.lex from at part).marks).commas + slot f.skipped (in_token from) e → element_at edges c.level place ≡ None)
     → IsPassedOver text edges last (lexical.lex from at part) (sum_of (lexical.lex from at part).marks) (in_token from) (in_token to) begun e x f c outer
 
--- what is held of the open containers follows them
+-- what is kept of the open containers follows them
 abbrev pub IsHeldOn : Type 0
 IsHeldOn = (text : List ℕ) (edges : List Edge) (last depth : ℕ) (ms : List Mark) (ends : List ℕ) (f : Finding) (e x : Expect) (hs gs : List Holder)
     → marks.read depth ms (went e hs) ≡ went x gs → Holds f.skipped f.opened hs → Holds (seek_all text edges last ms ends f).skipped (seek_all text edges last ms ends f).opened gs

@@ -1,4 +1,4 @@
--- What a walk through the chunks of a text needs, and what it was given.
+-- The bytes that a walk through the chunks of a text needs, and those that it was given.
 use Rattle.std.specs.Prelude.{◌≡◌, ℕ, ◌+◌, ◌-◌, ◌*◌, All, List, length, slice_range, Option, None, Some}
 use Rattle.jx_summary.specs.declared.span.Span.{Span}
 use Rattle.jx_run.specs.declared.texts.settings.Settings.{Settings}
@@ -51,11 +51,11 @@ pub record HasCome (settings : Settings) (chunk : ℕ) (text : List ℕ) (pointe
 abbrev pub held_by : Walk → Option Sought
 held_by w = w.held
 
--- how many containers stand open by what is held: those on the way of a pointer, and those that are skipped
+-- how many containers stand open by what is kept: those on the way of a pointer, and those that are skipped
 abbrev pub open_in : Option Sought → ℕ
 open_in None = 0
 open_in (Some h) = length h.state.opened.items + h.state.skipped
 
--- memory was refused, or the index was found to be of no text, and no bytes will be taken
+-- out of memory, or the index was found not to be that of any text, and no bytes will be taken
 abbrev pub IsLost : Walk → Type 0
 IsLost w = w.held ≡ None

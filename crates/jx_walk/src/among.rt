@@ -14,7 +14,7 @@ use jx_index::{Cursor, Edge};
 use jx_lex::pieces_are_read_in_turn;
 use jx_saved::{Entry, Index};
 
-/// What is kept of the chunk at a place, where the text has one.
+/// The entry of the chunk at a place, where the text has one.
 fn told_at(index: &Index, at: usize) -> Option<Entry>
     ensures { IfSome result (TellsAt index.now at) }
 {
@@ -22,7 +22,7 @@ fn told_at(index: &Index, at: usize) -> Option<Entry>
     kept_of(index, at, span)
 }
 
-/// The innermost object, where what is held stands in it before a chunk and no wanted value waits.
+/// The innermost object, where what is kept stands in it before a chunk and no wanted value waits.
 fn begin(
     index: &Index,
     names: &TextNames,
@@ -46,14 +46,14 @@ fn begin(
     Some(top)
 }
 
-/// What is held behind a chunk, and the entry of the one behind it.
+/// The state after a chunk, and the entry of the one after it.
 #[derive(Clone, Copy)]
 struct Further {
     among: Among,
     entry: Entry,
 }
 
-/// What is held behind the chunk at a place, which is neither the first nor the last, if it has no member that is wanted.
+/// The state after the chunk at a place, which is neither the first nor the last, if it has no member that is wanted.
 fn go_further(
     index: &Index,
     names: &TextNames,
@@ -77,7 +77,7 @@ fn go_further(
     Some(Further { among: next, entry })
 }
 
-/// Chunks that were passed over: what is held behind them, and the entry of the one that stands there.
+/// Chunks that were skipped: what is kept after them, and the entry of the one that stands there.
 #[derive(Clone, Copy)]
 pub(crate) struct Past {
     pub among: Among,
@@ -85,7 +85,8 @@ pub(crate) struct Past {
     pub end: usize,
 }
 
-/// Passes over chunks of the innermost object from a place on that have no member that is wanted, as few as end between names.
+/// Skips chunks of the innermost object from a place on that have no member that is wanted, as few as end between
+/// names.
 pub(crate) fn pass_members(
     index: &Index,
     names: &TextNames,
@@ -124,7 +125,7 @@ pub(crate) fn pass_members(
 }
 
 impl Past {
-    /// What is held behind the chunks.
+    /// The state after the chunks.
     pub(crate) fn of(self, held: Sought) -> Sought
         ensures { IsHeldAmong held self.among self.entry result }
     {

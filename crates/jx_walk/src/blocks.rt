@@ -75,7 +75,7 @@ fn kept_at(index: &Index, at: usize) -> Option<Entry>
     index.entries.as_slice().get(at).copied()
 }
 
-/// What is kept of a block, where more of the text stands behind it.
+/// The entry of a block, where more of the text follows it.
 pub(crate) fn entry_of(index: &Index, block: Block) -> Option<Entry>
     ensures { IfSome result (TellsOfBlock index.now block) }
 {

@@ -1,4 +1,4 @@
-// The chunks of a text, as its index tells of them.
+// The chunks of a text, as its index has them.
 ghost use Rattle.std.specs.Prelude.{◌≡◌, ◌≢◌, ◌<◌, ◌≤◌, ℕ, List, length, slice_get, slice_range, false, IfSome, IsTrue};
 ghost use Rattle.jx_run.specs.declared.texts.settings.Settings.{Settings};
 ghost use Rattle.jx_saved.specs.declared.entry.Entry.{Entry};
@@ -32,7 +32,7 @@ pub fn chunk_at(index: &Index, at: usize) -> Option<Span>
     Some(Span { start, end })
 }
 
-/// What is kept of the chunk at a place. Of a text of one chunk that is the top.
+/// The entry of the chunk at a place. Of a text of one chunk that is the top.
 pub fn entry_at(index: &Index, at: usize) -> Option<Entry>
     ensures { (es : List Entry) → AreLevels es index.now.entries.items index.now.top → at < length es → result ≡ slice_get es at }
 {

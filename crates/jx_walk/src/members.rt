@@ -1,4 +1,4 @@
-// What is held behind chunks of an object on the way that have no member that is wanted.
+// The state after chunks of an object on the way that have no member that is wanted.
 ghost use Rattle.std.specs.Prelude.{◌≡◌, ◌+◌, ◌<◌, Some, length, map, slice_get, true, false, IfOk, IfSome};
 ghost use Rattle.jx_lex.specs.TokenStates.{in_token};
 ghost use Rattle.jx_index.specs.declared.trie.Edge.{Edge};
@@ -22,7 +22,7 @@ pub struct TextNames<'a> {
     pub numbers: Vec<u32>,
 }
 
-/// The numbers of the names that edges ask for.
+/// The hashes of the names that edges ask for.
 pub(crate) fn numbers_of(alloc: Global, edges: &[Edge]) -> Result<Vec<u32>, AllocError>
     ensures { IfOk result (λ numbers. numbers.items ≡ map (λ (e : Edge). name_hash (edge_units e)) edges.now) }
 {
@@ -153,7 +153,7 @@ pub(crate) fn cuts_name(skipped: usize, here: &Entry) -> bool
     skipped == 0 && is_in_token(here.state) && matches!(here.expect, Expect::Colon)
 }
 
-/// Whether what is held stands in an object before this entry's chunk, and no value waits there that is wanted.
+/// Whether what is kept stands in an object before this entry's chunk, and no value waits there that is wanted.
 pub(crate) fn may_start(held: &Sought, here: &Entry) -> bool
     ensures { result ≡ true → IsStarted held.now here.now }
 {
@@ -176,7 +176,7 @@ fn count_on(among: Among, here: &Entry, behind: &Entry, skipped: usize) -> Optio
     all.checked_sub(lacks(skipped, is_in_token(behind.state), behind.expect))
 }
 
-/// What is held behind a chunk that has no member that is wanted.
+/// The state after a chunk that has no member that is wanted.
 pub(crate) fn over_chunk(among: Among, here: &Entry, behind: &Entry, wants: bool) -> Option<Among>
     ensures counted { IfSome result (λ next. IsCounted here.now behind.now among.count among.skipped next.count next.skipped) }
     ensures none { IfSome result (λ _. here.now.sum.closed ≡ among.skipped → wants ≡ false) }

@@ -1,4 +1,4 @@
-// What is held behind a chunk that need not be read.
+// The state after a chunk that need not be read.
 ghost use Rattle.std.specs.Prelude.{◌≡◌, ◌<◌, ◌≤◌, None, reverse, is_some, true, false, IfSome};
 ghost use Rattle.jx_reduce.specs.declared.table.expect.Expect.TheVariants.{After};
 ghost use Rattle.jx_lex.specs.declared.alphabet.mark.MarkKind.{MarkKind};
@@ -16,7 +16,7 @@ use jx_lex::{LexState, Mark, MarkKind};
 use jx_reduce::Expect;
 use jx_saved::Entry;
 
-/// What changes of what is held where a chunk is passed over.
+/// The change of the state where a chunk is skipped.
 #[derive(Clone, Copy)]
 pub(crate) struct Over {
     /// How many elements of the innermost open array were counted, where that changes.
@@ -76,7 +76,7 @@ fn may_name(state: &State) -> bool
     }
 }
 
-/// Where no mark begins and no end shows.
+/// Where no token start begins and no end shows.
 fn pass_nothing(held: &Sought, edges: &[Edge], here: &Entry, behind: &Entry) -> Option<Over>
     ensures over { IfSome result (IsOver held.now edges.now here.now behind.now) }
     ensures turn { IfSome result (KeepsTurn held.now here.now behind.now) }
@@ -92,7 +92,7 @@ fn pass_nothing(held: &Sought, edges: &[Edge], here: &Entry, behind: &Entry) -> 
     })
 }
 
-/// Whether a token is held exactly where one has begun.
+/// Whether a token is kept exactly where one has begun.
 pub(crate) fn agrees(held: &Sought, here: &Entry) -> bool
     ensures same { result ≡ true → in_token here.now.state ≡ is_some held.now.begun }
     ensures other { result ≡ false → in_token here.now.state ≡ is_some held.now.begun → ⊥ }
@@ -146,7 +146,7 @@ fn place_from(edges: &[Edge], at: usize, node: usize) -> usize
     }
 }
 
-/// The lesser of two places, if the first is none below a count.
+/// The lesser of two places, where the first counts only below a count.
 fn nearer(place: usize, count: usize, next: usize) -> usize
     ensures low { place < result → place < count }
     ensures most { result ≤ next }
@@ -238,8 +238,8 @@ fn pass_elements(held: &Sought, edges: &[Edge], here: &Entry, behind: &Entry) ->
     })
 }
 
-/// What changes of what is held where a chunk of an accepted text is passed over, if it can be, by what is kept of it and of
-/// the one behind it.
+/// The change of the state where a chunk of an accepted text is skipped, if it can be, by its entry and that of the one
+/// after it.
 pub(crate) fn pass(held: &Sought, edges: &[Edge], here: &Entry, behind: &Entry) -> Option<Over>
     ensures over { IfSome result (IsOver held.now edges.now here.now behind.now) }
     ensures turn { IfSome result (KeepsTurn held.now here.now behind.now) }
@@ -267,7 +267,7 @@ fn recount(opened: &mut Vec<Cursor>, count: Option<usize>)
 }
 
 impl Over {
-    /// What is held behind the chunk.
+    /// The state after the chunk.
     pub(crate) fn of(self, held: Sought) -> Sought
         ensures finding { finding result.state ≡ finding_over self (finding held.state) }
         ensures next { result.next ≡ self.next }

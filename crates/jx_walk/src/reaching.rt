@@ -1,4 +1,4 @@
-// How far chunks are read, or passed over.
+// How far chunks are read, or skipped.
 ghost use Rattle.std.specs.Prelude.{◌≡◌, ◌+◌, ◌*◌, ◌<◌, ◌≤◌, ℕ, List, Some, slice_range, IfNone, IfOk, IfSome};
 ghost use Rattle.jx_run.specs.declared.texts.settings.Settings.{Settings};
 ghost use Rattle.jx_find.specs.declared.held.Sought.{Sought as SoughtOf};
@@ -23,7 +23,7 @@ use jx_lex::{Span, pieces_are_read_in_turn};
 use jx_saved::{Entry, Index};
 use std::alloc::{AllocError, Global};
 
-/// How far chunks were passed over, and what is held there.
+/// How far chunks were skipped, and what is kept there.
 #[derive(Drop)]
 pub(crate) struct Reached {
     pub held: Sought,
@@ -37,7 +37,7 @@ fn step(at: usize) -> Result<usize, AllocError>
     at.checked_add(1).ok_or(AllocError)
 }
 
-/// What is kept of the chunk at a place where the text has one.
+/// The entry of the chunk at a place where the text has one.
 pub(crate) fn kept_of(index: &Index, at: usize, span: Span) -> Option<Entry>
     requires here { chunk_at index.now at ≡ Some span }
     ensures at { chunk_at index.now at ≡ Some span }
@@ -46,14 +46,14 @@ pub(crate) fn kept_of(index: &Index, at: usize, span: Span) -> Option<Entry>
     entry_at(index, at)
 }
 
-/// What is passed over from a place on: what changes of what is held, and which chunk stands behind.
+/// A skip from a place on: the change of the state, and which chunk follows.
 #[derive(Clone, Copy)]
 pub(crate) struct Stretch {
     pub over: Over,
     pub end: usize,
 }
 
-/// What is passed over where a block is, if it can be. The first block and the last of each level are not.
+/// The skip over a block, if it can be skipped. The first block and the last of each level cannot.
 fn over_block(
     index: &Index,
     edges: &[Edge],
@@ -76,8 +76,9 @@ fn over_block(
     Some(Stretch { over, end })
 }
 
-/// What is passed over from a place on, if the chunk there can be: the largest block that begins there of those that can be.
-/// What lets a block be passed lets the block below that begins with it, so none is tried above one that is not passed.
+/// The skip from a place on, if the chunk there can be skipped: the largest block that begins there of those that can.
+/// Where a block can be skipped, the block below that begins with it can be too, so none is tried above one that is not
+/// skipped.
 fn over_from(index: &Index, edges: &[Edge], held: &Sought, at: usize) -> Option<Stretch>
     ensures { IfSome result (IsStretch index.now edges.now held.now at) }
 {
@@ -93,7 +94,7 @@ fn over_from(index: &Index, edges: &[Edge], held: &Sought, at: usize) -> Option<
     Some(stretch)
 }
 
-/// Passes over chunks of the innermost object from a place on, by the names of the text, if they are known.
+/// Skips chunks of the innermost object from a place on, by the names of the text, if they are known.
 fn by_names(
     index: &Index,
     names: &Option<TextNames>,
@@ -110,7 +111,7 @@ fn by_names(
     }
 }
 
-/// Passes over chunks from a place on, if the first of them can be.
+/// Skips chunks from a place on, if the first of them can be.
 fn over_some(
     index: &Index,
     names: &Option<TextNames>,
@@ -136,7 +137,7 @@ fn over_some(
     Reached { held, at: past.end }
 }
 
-/// Passes over all chunks from a place on that can be.
+/// Skips all chunks from a place on that can be.
 fn pass_on(
     index: &Index,
     names: &Option<TextNames>,
@@ -162,8 +163,8 @@ fn pass_on(
     Reached { held, at }
 }
 
-/// Reads the chunk at a place behind what is held, and passes over those behind it that can be; none where it is a chunk of
-/// no text that has this index.
+/// Reads the chunk at a place after what is kept, and skips those after it that can be; none where the chunk and the
+/// index are not of one text.
 pub(crate) fn read_on(
     alloc: Global,
     index: &Index,

@@ -1,4 +1,4 @@
-// A chunk that is read behind what is held of the bytes before it.
+// A chunk that is read after what is kept of the bytes before it.
 ghost use Rattle.std.specs.Prelude.{◌≡◌, ◌+◌, ◌++◌, ℕ, List, Some, is_some, length, slice_range, false, true, IfNone, IfOk, IfSome};
 ghost use Rattle.jx_lex.specs.declared.alphabet.mark.Mark.{Mark};
 ghost use Rattle.jx_lex.specs.declared.alphabet.state.LexState.{LexState};
@@ -24,7 +24,7 @@ use jx_saved::Index;
 use std::alloc::{AllocError, Global};
 use std::marker::Brand;
 
-/// Reads the first bytes of a text; none where with them no text begins.
+/// Reads the first bytes of a text; none where they do not begin a text.
 fn read_first<B: Before>(
     alloc: Global,
     settings: &Settings,
@@ -90,8 +90,8 @@ fn read_later<B: Before>(
     }
 }
 
-/// Reads the chunk at a place behind what is held of the bytes before it; none where it is a chunk of no text that has this
-/// index, as where the index says that it begins inside a token and none has begun.
+/// Reads the chunk at a place after what is kept of the bytes before it; none where the chunk and the index are not of
+/// one text, as where the index says that it begins inside a token and none has begun.
 pub(crate) fn read_chunk(
     alloc: Global,
     index: &Index,

@@ -28,13 +28,14 @@ pub enum WalkFault {
     /// The bytes of this chunk are not those of the text that was indexed.
     #[error("changed in {}..{}", .0.start, .0.end)]
     Changed(Span),
-    /// The index is of no text.
+    /// The index is not that of any text.
     #[error("damaged")]
     Damaged,
 }
 
-/// A look-up of several pointers in a JSON text (RFC 8259) of which an index is saved. It tells which bytes of the text it
-/// needs, and is given them; chunks that have nothing to do with the pointers are passed over. It keeps what a `Finder` does.
+/// A look-up of several pointers in a JSON text (RFC 8259) of which an index is saved. It says which bytes of the text
+/// it needs, and is given them; chunks that have nothing to do with the pointers are skipped. It keeps what a `Finder`
+/// does.
 #[derive(Drop)]
 pub struct Walk<'a, 'p> {
     alloc: Global,
@@ -46,7 +47,7 @@ pub struct Walk<'a, 'p> {
     names: Option<TextNames<'a>>,
     /// Which chunk is needed next.
     at: usize,
-    /// What is held of the bytes before it. None where memory was refused, or the index is of no text.
+    /// The state after the bytes before it. None when out of memory, or the index is not that of any text.
     held: Option<Sought>,
 }
 
@@ -70,7 +71,7 @@ fn is_whole(held: &Sought) -> bool
 }
 
 impl<'a, 'p> Walk<'a, 'p> {
-    /// A walk for pointers that was given no byte. `Err` where memory is refused.
+    /// A walk for pointers that was given no byte. `Err` when out of memory.
     pub fn new(
         alloc: Global,
         index: &'a Index,
@@ -99,8 +100,8 @@ impl<'a, 'p> Walk<'a, 'p> {
         })
     }
 
-    /// The same with the tables of the text's names. By them chunks of an object on the way are passed over that have no member
-    /// that is wanted.
+    /// The same with the tables of the text's names. By them chunks of an object on the way are skipped that have no
+    /// member that is wanted.
     pub fn with_names(
         alloc: Global,
         index: &'a Index,
@@ -115,7 +116,7 @@ impl<'a, 'p> Walk<'a, 'p> {
         walk.by_names(tables)
     }
 
-    /// The walk as far as it has come, from now on by the tables of the text's names. `Err` where memory is refused.
+    /// The walk as far as it has come, from now on by the tables of the text's names. `Err` when out of memory.
     pub fn by_names(self, tables: &'a NameTables) -> Result<Walk<'a, 'p>, AllocError>
         ensures index { IfOk result (λ walk. walk.index.now ≡ self.entry.index.now) }
         ensures value { IfOk result (λ walk. paused_of walk ≡ paused_of self.entry) }
@@ -139,12 +140,12 @@ impl<'a, 'p> Walk<'a, 'p> {
         chunk_at(self.index, self.at)
     }
 
-    /// Gives it the bytes that it needs. Where they are others than those of the text that was indexed, nothing is taken, and
-    /// other bytes may be given. Where it needs none, nothing is done. `Err` where memory is refused or the index was found
-    /// to be of no text, and from then on always.
+    /// Gives it the bytes that it needs. Where they are others than those of the text that was indexed, nothing is
+    /// taken, and other bytes may be given. Where it needs none, nothing is done. `Err` when out of memory or the index
+    /// was found not to be that of any text, and from then on always.
     pub fn give(&mut self, bytes: &[u8]) -> Result<Result<(), WalkFault>, AllocError>
         ensures index { self.new.index.now ≡ self.old.index.now }
-        // Bytes of the text, as far as their digest tells, lead on.
+        // Bytes of the text, as far as their digest decides, lead on.
         ensures come { IfOk result (λ told. IfOk told (λ _. (settings : Settings) (chunk : ℕ) (text : List ℕ) (pointers : List (List ℕ)) → HasCome settings chunk text pointers self.old
             → ((span : Span) → needed self.old ≡ Some span → IsToldApart text span bytes.now) → HasCome settings chunk text pointers self.new)) }
         // Whatever the index, it goes forward.
@@ -187,14 +188,14 @@ impl<'a, 'p> Walk<'a, 'p> {
         Ok(Ok(()))
     }
 
-    /// The answers: for each pointer, in order, the value, or the first token that leads nowhere; or that the index is of no
-    /// text, as where containers stay open. `Err` where memory is or was refused.
+    /// The answers: for each pointer, in order, the value, or the first token that leads nowhere; or that the index is
+    /// not that of any text, as where containers stay open. `Err` when out of memory, now or before.
     pub fn answers(self) -> Result<Result<Vec<Result<Found, FindFault>>, WalkFault>, AllocError>
         requires all { needed self ≡ None }
         ensures found { IfOk result (λ told. IfOk told (λ found. (settings : Settings) (chunk : ℕ) (text : List ℕ) (pointers : List (List ℕ)) → HasCome settings chunk text pointers self.entry
             → AreFoundIn settings text pointers found.items)) }
         ensures damaged { IfOk result (λ told. IfErr told (λ fault. (settings : Settings) (chunk : ℕ) (text : List ℕ) (pointers : List (List ℕ)) → HasCome settings chunk text pointers self.entry → ⊥)) }
-        // Damage is told just where containers stand open.
+        // Damage is reported just where containers stand open.
         ensures unclosed { IfOk result (λ told. 0 < open_in (held_by self.entry) → told ≡ Err Damaged) }
         ensures only { IfOk result (λ told. IfErr told (λ _. 0 < open_in (held_by self.entry))) }
         ensures lost { IsLost self.entry → IsErr result }

@@ -1,4 +1,4 @@
--- What a look-up by a saved index gives.
+-- The result of a look-up by a saved index.
 use Rattle.std.specs.Prelude.{◌≡◌, ℕ, List, Option, Some}
 use Rattle.jx_run.specs.declared.texts.settings.Settings.{Settings}
 use Rattle.jx_words.specs.declared.pointer_answer.PointerAnswer.{PointerAnswer}

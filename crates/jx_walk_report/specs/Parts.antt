@@ -1,4 +1,4 @@
--- What is written and told for the parts of a container to which a pointer leads, by a saved index.
+-- The output and the report for the parts of a container to which a pointer leads, by a saved index.
 use Rattle.std.specs.Prelude.{◌≡◌, ℕ, List, [], ◌++◌, Bool, false, Option, Some, Ok, Err, codes, length}
 use Rattle.std.specs.Io.KnownBytes.{Appends}
 use Rattle.std.specs.List.{flat_map}
@@ -44,7 +44,7 @@ pub data Splits (parts : ℕ) (pointer text : List ℕ) (tree : Tree) : List ℕ
   container : (there : Numbered) → IsPointer pointer → led text tree (tokens pointer) ≡ Ok there → IsContainer (kind_of there.tree)
       → Splits parts pointer text tree (part_lines (parts_of parts text there.tree)) [] Good
 
--- the whole output for a text, all that is told of it, and the exit
+-- the whole output for a text, all that is reported of it, and the status
 pub record SplitOutput (settings : Settings) (parts : ℕ) (pointer text output tells : List ℕ) (exit : Exit) : Type 0 where
   pub tree : Tree
   pub is_text : IsDocumentBy settings 0 text tree
@@ -59,7 +59,7 @@ AreParts parts pointer saved content output tells exit =
     (settings : Settings) (chunk : ℕ) (text bytes file : List ℕ) → IsSavedOf settings chunk text bytes → saved ≡ Some bytes → content ≡ Some file → TellsApart chunk text file
     → SplitOutput settings parts pointer text output tells exit
 
--- the writer got the whole output, and what is told was told unless telling failed
+-- the writer got the whole output, and the report was written unless reporting failed
 pub record WritesParts (parts : ℕ) (pointer : List ℕ) (saved content written grown : Option (List ℕ)) (is_lost : Bool) (told retold : Option (List ℕ)) (exit : Exit) : Type 0 where
   pub output : List ℕ
   pub tells : List ℕ

@@ -1,4 +1,4 @@
--- What a report by a saved index writes, and why it fails, where the bytes of the files are known.
+-- A report by a saved index: its output, and why it fails, where the bytes of the files are known.
 use Rattle.std.specs.Prelude.{◌≡◌, ◌≢◌, ℕ, List, Option, Some, slice_range}
 use Rattle.std.specs.Io.KnownBytes.{Appends}
 use Rattle.jx_run.specs.declared.texts.settings.Settings.{Settings}
@@ -49,7 +49,8 @@ pub record HasOtherSize (content : Option (List ℕ)) (size indexed : ℕ) : Typ
   pub is_size : HasSize content size
   pub other : indexed ≢ size
 
--- the same, where the index is that of a text, for which a chunk is told to be changed only where the file has other bytes there
+-- the same, where the index is that of a text, for which a chunk is reported to be changed only where the file has
+-- other bytes there
 abbrev pub FailsFor : Option (List ℕ) → Option (List ℕ) → LookFault → Type 0
 FailsFor saved content SavedRead = Unit {0}
 FailsFor saved content TextRead = Unit {0}

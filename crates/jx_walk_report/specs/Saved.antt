@@ -1,4 +1,4 @@
--- Which bytes are saved of a text, and what tells a file from the text.
+-- The bytes that are saved of a text, and how a file differs from the text.
 use Rattle.std.specs.Prelude.{◌≡◌, ℕ, List}
 use Rattle.jx_run.specs.declared.texts.settings.Settings.{Settings}
 use Rattle.jx_run.specs.declared.texts.verdict.Verdict.TheVariants.{Accepted}
@@ -16,7 +16,7 @@ pub record IsKeptOf (settings : Settings) (chunk : ℕ) (text : List ℕ) (saved
   pub index : IsIndexOf settings chunk text saved.index
   pub names : KeepsNames settings chunk text saved.names
 
--- the bytes are those of such an index, and of such tables behind it, if there are any
+-- the bytes are those of such an index, and of such tables after it, if there are any
 pub record IsSavedOf (settings : Settings) (chunk : ℕ) (text bytes : List ℕ) : Type 0 where
   pub accepted : IsVerdictBy settings text Accepted
   pub saved : SavedText

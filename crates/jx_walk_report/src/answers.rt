@@ -1,4 +1,4 @@
-// What strings come to as pointers into a text of which an index is saved.
+// Answers to strings as pointers into a text of which an index is saved.
 ghost use Rattle.std.specs.Prelude.{◌≡◌, ◌↔◌, true, false, Some, ℕ, List, map, string_bytes, IfOk, IfErr, IsErrOf};
 ghost use Rattle.jx_run.specs.declared.texts.settings.Settings.{Settings};
 ghost use Rattle.jx_words.specs.Answers.{AreAnswersIn};
@@ -15,7 +15,7 @@ use jx_saved_names::SavedText;
 use jx_words::{PointerAnswer, ReadPointers, answers_in, read_pointers};
 use std::alloc::Global;
 
-/// What strings, in their order, come to as pointers into the text of which this is saved.
+/// The answers to strings, in their order, as pointers into the text of which this is saved.
 pub(crate) fn answers_of<F: ReadAt>(
     alloc: Global,
     file: &mut F,

@@ -1,5 +1,5 @@
-//! Reports by a saved index: pointers are looked up in a text of which only the chunks are read that have to be, and what they
-//! come to is written.
+//! Reports by a saved index: pointers are looked up in a text of which only the chunks are read that have to be, and
+//! what they lead to is written.
 #![tactic(auto)]
 
 mod answers;

@@ -7,14 +7,14 @@ use jx_ends::Exit;
 use jx_words::{PointerAnswer, add_answer, answer_at, exit_of_answers};
 use std::alloc::{AllocError, Global};
 
-/// The lines for pointers, and what the report comes to.
+/// The lines for pointers, and what the report leads to.
 #[derive(Debug, Drop)]
 pub(crate) struct Lines {
     pub bytes: Vec<u8>,
     pub exit: Exit,
 }
 
-/// A line for each answer, in their order. The exit is good where each pointer is found.
+/// A line for each answer, in their order. The status is good where each pointer is found.
 pub(crate) fn lines_of(alloc: Global, answers: &[PointerAnswer]) -> Result<Lines, AllocError>
     ensures bytes { IfOk result (λ lines. lines.bytes.items ≡ pointer_lines answers.now) }
     ensures exit { IfOk result (λ lines. lines.exit ≡ exit_past_lines Good answers.now) }

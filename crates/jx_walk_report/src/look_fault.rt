@@ -20,10 +20,10 @@ pub enum LookFault {
     /// The writer failed, or took no byte.
     #[error("write failed")]
     Write,
-    /// A growth of memory was refused.
+    /// An allocation failed.
     #[error("out of memory")]
     Memory,
-    /// What should be an index is none.
+    /// The bytes given as an index are not an index.
     #[error("{0}")]
     Saved(SavedFault),
     /// The text has another size than the one that was indexed. Nothing of it was read.
@@ -32,7 +32,7 @@ pub enum LookFault {
     /// The bytes there are not those of the text that was indexed.
     #[error("changed in {}..{}", .0.start, .0.end)]
     Changed(Span),
-    /// The index is of no text.
+    /// The index is not that of any text.
     #[error("damaged")]
     NoText,
 }

@@ -13,7 +13,7 @@ use jx_saved::Index;
 use jx_words::PointerAnswer;
 use std::alloc::Global;
 
-/// What pointers come to in a text, and the index that they were looked up by.
+/// The answers to pointers in a text, and the index that they were looked up by.
 #[derive(Debug, Drop)]
 pub struct Looked {
     pub index: Index,
@@ -23,9 +23,10 @@ pub struct Looked {
 
 /// Reads an index to its end, and looks strings up as pointers (RFC 6901, section 4) in the text by it.
 ///
-/// By tables of the text's names behind the index fewer chunks are read; the answers are the same. The index is held, and of the
-/// text one chunk. An index that is none, or is that of a text with another size, is told before
-/// a byte of the text is read. Each chunk that is read is held to its digest; those that are not read may have changed.
+/// With tables of the text's names after the index fewer chunks are read; the answers are the same. The index is kept,
+/// and of the text one chunk. Bytes that are not an index, or an index of a text with another size, are reported before
+/// a byte of the text is read. Each chunk that is read is checked against its checksum; those that are not read may
+/// have changed.
 pub fn look_up<S: Source, F: ReadAt>(
     alloc: Global,
     saved: &mut S,
@@ -45,7 +46,7 @@ pub fn look_up<S: Source, F: ReadAt>(
     // Each fault of the index or of the text is one.
     ensures fault { IfErr result (FailsFor (S.remaining saved.old) (F.content file.old)) }
     ensures unwritten { IfErr result (λ fault. fault ≢ LookFault.Write) }
-    // What is wrong with the index is told before the text is read.
+    // What is wrong with the index is reported before the text is read.
     ensures unread { IfErr result (λ fault. IsOfText fault ⊎ (file.new ≡ file.old)) }
 {
     let read = read_saved(alloc, saved, file.size())?;

@@ -36,8 +36,8 @@ fn read_on<F: ReadAt>(
     file.read_at(&mut buffer[filled..], start + filled)
 }
 
-/// Reads the bytes of a part of a file, or fewer where the file ends before the part does. The buffer has them alone. It grows
-/// at once, so that where memory is refused nothing was read.
+/// Reads the bytes of a part of a file, or fewer where the file ends before the part does. The buffer has them alone.
+/// It grows at once, so that when out of memory nothing was read.
 pub fn read_part<F: ReadAt>(file: &mut F, buffer: &mut Vec<u8>, span: Span) -> Result<(), LookFault>
     requires unfailed { F.has_failed file.old ≡ false }
     requires order { span.start ≤ span.end }

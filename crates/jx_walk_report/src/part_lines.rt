@@ -33,7 +33,7 @@ pub(crate) fn part_lines(alloc: Global, parts: &[ContainerPart]) -> Result<Vec<u
     Ok(lines)
 }
 
-/// What is told of a string that has no parts.
+/// The report on a string that has no parts.
 pub(crate) fn told_of(alloc: Global, answer: PointerAnswer) -> Result<Vec<u8>, AllocError>
     ensures { IfOk result (λ told. told.items ≡ told_words answer) }
 {

@@ -13,7 +13,7 @@ use crate::splitting::split_of;
 use jx_ends::{Exit, Sink, Source, write_whole};
 use std::alloc::Global;
 
-/// Tells what there is to tell, unless telling has failed before. Where telling fails, no more is told.
+/// Writes the report, unless reporting has failed before. Where reporting fails, no more is reported.
 fn tell<E: Sink>(errors: &mut E, told: &[u8])
     ensures { E.has_failed errors.new ≡ false → Appends (E.contents errors.old) (E.contents errors.new) told.now }
 {
@@ -22,12 +22,12 @@ fn tell<E: Sink>(errors: &mut E, told: &[u8])
     }
 }
 
-/// Reads an index to its end, and writes a line `S..E I..J` for each part of a container of its text that has a child. The
-/// container is the one that a string, read as a pointer, leads to; where it leads to none, nothing is written, and
-/// `jx: WORDS` is told. The exit is good where nothing is told.
+/// Reads an index to its end, and writes a line `S..E I..J` for each part of a container of its text that has a child.
+/// The container is the one that a string, read as a pointer, leads to; where it leads to none, nothing is written, and
+/// `jx: WORDS` is reported. The status is good where nothing is reported.
 ///
-/// The index is held, and of the text one chunk; each part takes a few words. What is told of the index, of the size of the text
-/// and of chunks is as by `report_places`. All lines are made before the first one is written.
+/// The index is kept, and of the text one chunk; each part takes a few words. The report on the index, of the size of
+/// the text and of chunks is as by `report_places`. All lines are made before the first one is written.
 pub fn report_parts<S: Source, F: ReadAt, W: Sink, E: Sink>(
     alloc: Global,
     saved: &mut S,
@@ -46,14 +46,14 @@ pub fn report_parts<S: Source, F: ReadAt, W: Sink, E: Sink>(
     ensures saved_read { IsErrOf result LookFault.SavedRead ↔ (S.has_failed saved.new ≡ true) }
     ensures read { IsErrOf result LookFault.TextRead ↔ (F.has_failed file.new ≡ true) }
     ensures write { IsErrOf result LookFault.Write ↔ (W.has_failed writer.new ≡ true) }
-    // After any other fault the writer is as it was, and after each fault nothing was told.
+    // After any other fault the writer is as it was, and after each fault nothing was reported.
     ensures unwritten { IfErr result (λ fault. fault ≢ LookFault.Write → writer.new ≡ writer.old) }
     ensures untold { OnErr result (errors.new ≡ errors.old) }
     // After a write fault a beginning of the output was written.
     ensures beginning { IsErrOf result LookFault.Write → WritesPartsInPart parts pointer.now (S.remaining saved.old) (F.content file.old) (W.contents writer.old) (W.contents writer.new) }
     // Each fault of the index or of the text is one.
     ensures fault { IfErr result (FailsFor (S.remaining saved.old) (F.content file.old)) }
-    // What is wrong with the index is told before the text is read.
+    // What is wrong with the index is reported before the text is read.
     ensures unread { IfErr result (λ fault. IsOfText fault ⊎ (fault ≡ LookFault.Write) ⊎ (file.new ≡ file.old)) }
 {
     let read = read_saved(alloc, saved, file.size())?;

@@ -18,8 +18,8 @@ pub trait ReadAt {
     fn size(&self) -> usize
         ensures { HasSize (content self.now) result };
 
-    /// Reads from an offset on up to as many bytes as there is room for, and answers how many; 0 at the end of the bytes and
-    /// behind it, or where there is no room. Each error is a failure, also one of kind `Interrupted`.
+    /// Reads from an offset on up to as many bytes as there is room for, and answers how many; 0 at the end of the
+    /// bytes and after it, or where there is no room. Each error is a failure, also one of kind `Interrupted`.
     fn read_at(&mut self, buf: &mut [u8], offset: usize) -> io::Result<usize>
         ensures bound { ReadsAtMost result buf.new }
         ensures bytes { ReadsThere (content self.old) offset result buf.new }

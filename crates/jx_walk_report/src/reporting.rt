@@ -25,12 +25,12 @@ pub(crate) fn write_lines<W: Sink>(writer: &mut W, bytes: &[u8]) -> Result<(), L
     }
 }
 
-/// Reads an index to its end, looks pointers up in the text by it, and writes a line for each, in order, as `at` does. The
-/// exit is good where each is found.
+/// Reads an index to its end, looks pointers up in the text by it, and writes a line for each, in order, as `at` does.
+/// The status is good where each is found.
 ///
-/// The index is held, and of the text one chunk. An index that is none, or is that of a text with another size, is told before
-/// a byte of the text is read. Each chunk that is read is held to its digest; those that are not read may have changed. All
-/// lines are made before the first one is written.
+/// The index is kept, and of the text one chunk. Bytes that are not an index, or an index of a text with another size,
+/// are reported before a byte of the text is read. Each chunk that is read is checked against its checksum; those that
+/// are not read may have changed. All lines are made before the first one is written.
 pub fn report_places<S: Source, F: ReadAt, W: Sink>(
     alloc: Global,
     saved: &mut S,
@@ -54,7 +54,7 @@ pub fn report_places<S: Source, F: ReadAt, W: Sink>(
         (W.contents writer.old) (W.contents writer.new) }
     // Each fault of the index or of the text is one.
     ensures fault { IfErr result (FailsFor (S.remaining saved.old) (F.content file.old)) }
-    // What is wrong with the index is told before the text is read.
+    // What is wrong with the index is reported before the text is read.
     ensures unread { IfErr result (λ fault. IsOfText fault ⊎ (fault ≡ LookFault.Write) ⊎ (file.new ≡ file.old)) }
 {
     let Looked { answers, .. } = look_up(alloc, saved, file, pointers)?;

@@ -1,4 +1,4 @@
-// What is saved of a text is read.
+// Reads the index and the tables that are saved of a text.
 ghost use Rattle.std.specs.Prelude.{◌≡◌, ◌≢◌, ◌+◌, ◌<◌, ◌≤◌, ◌↔◌, true, false, Some, length, IfOk, IfErr, IsErrOf};
 ghost use Rattle.std.specs.Io.KnownBytes.{Consumes, IsAtEnd};
 ghost use Rattle.jx_ends.specs.Ends.{ReadsToEnd};
@@ -18,7 +18,7 @@ const HEAD: usize = 64;
 
 const SEALED: usize = 56;
 
-/// Where the head tells the size of the text.
+/// Where the head reports the size of the text.
 const SIZE_AT: usize = 8;
 
 /// How many bytes an entry has, and a key of a table, or the count of its keys.
@@ -26,13 +26,13 @@ const ENTRY: usize = 24;
 
 const KEY: usize = 4;
 
-/// How many bytes stand before the tables of names and behind them.
+/// How many bytes are before the tables of names and after them.
 const TABLES: usize = 16;
 
 /// How many bytes a chunk has at least.
 const LEAST_CHUNK: usize = 64;
 
-/// How many bytes stand behind the head at most, for a text of so many bytes, and one more.
+/// How many bytes follow the head at most, for a text of so many bytes, and one more.
 fn most_behind(size: usize) -> usize {
     // For each chunk two entries and a count of keys; what else tables have, and one byte more.
     let all = (2 * ENTRY + KEY) * (size / LEAST_CHUNK + 1) + TABLES + 1;
@@ -56,7 +56,7 @@ fn word_at(bytes: &[u8], at: usize) -> usize
     ]) as usize
 }
 
-/// The size of the text that a head tells, if its digest is that of its bytes.
+/// The size of the text by a head, if its digest is that of its bytes.
 fn size_told(head: &[u8]) -> Option<usize> {
     if head.len() < HEAD || digest_of(&head[0..SEALED]) != word_at(head, SEALED) as u64 {
         return None;
@@ -86,8 +86,8 @@ fn fill_saved<S: Source>(alloc: Global, saved: &mut S, limit: usize) -> Result<V
     }
 }
 
-/// Whether bytes may be the first ones of the index of a text of so many bytes. Which bytes are no index at all, or one of
-/// another version, shows before the size that they tell.
+/// Whether bytes may be the first ones of the index of a text of so many bytes. That bytes are not an index, or one of
+/// another version, shows before their size does.
 fn check_head(alloc: Global, head: &[u8], size: usize) -> Result<(), LookFault>
     ensures long { IfOk result (λ _. 64 ≤ length head.now) }
     ensures fault { IfErr result (IsOfSaved size) }
@@ -107,7 +107,7 @@ fn check_head(alloc: Global, head: &[u8], size: usize) -> Result<(), LookFault>
     }
 }
 
-/// What is saved of a text of so many bytes, by these bytes.
+/// The index and tables of a text of so many bytes, from these bytes.
 fn saved_of(alloc: Global, bytes: &[u8], size: usize) -> Result<SavedText, LookFault>
     ensures found { IfOk result (λ read. spelt_saved read ≡ bytes.now) }
     ensures size { IfOk result (λ read. read.index.size ≡ size) }
@@ -127,8 +127,8 @@ fn saved_of(alloc: Global, bytes: &[u8], size: usize) -> Result<SavedText, LookF
     }
 }
 
-/// Reads an index to its end, which is that of a text of so many bytes, and the tables of names behind it, if there are any. No
-/// more is read than these have, and a byte behind them.
+/// Reads an index to its end, which is that of a text of so many bytes, and the tables of names after it, if there are
+/// any. No more is read than these have, and a byte after them.
 pub(crate) fn read_saved<S: Source>(
     alloc: Global,
     saved: &mut S,

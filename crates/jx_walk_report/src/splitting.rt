@@ -32,7 +32,7 @@ fn slash_count(byte: u8) -> usize
     if byte == b'/' { 1 } else { 0 }
 }
 
-/// How many tokens a pointer has: one behind each slash.
+/// How many tokens a pointer has: one after each slash.
 fn token_count(spelt: &str) -> usize
     ensures { result ≡ length (tokens spelt.now) }
 {
@@ -92,14 +92,14 @@ fn one_pointer(alloc: Global, pointer: Pointer<'_>) -> Result<Vec<Pointer<'_>>, 
     Ok(pointers)
 }
 
-/// What the first of several pointers leads to.
+/// The answer to the first of several pointers.
 fn first_of(found: &[Result<Found, FindFault>]) -> Option<Result<Found, FindFault>>
     ensures { result ≡ slice_get found.now 0 }
 {
     found.get(0).copied()
 }
 
-/// What a pointer leads to in the text of which this is saved.
+/// The answer to a pointer in the text of which this is saved.
 fn found_one<F: ReadAt>(
     alloc: Global,
     file: &mut F,

@@ -32,8 +32,8 @@ fn walk_by<'a, 'p>(
     }
 }
 
-/// What each pointer, in order, leads to in the text of which this is saved. Of the file those chunks are read that have to be, one
-/// at a time.
+/// The answer to each pointer, in order, in the text of which this is saved. Of the file those chunks are read that
+/// have to be, one at a time.
 pub(crate) fn found_in<F: ReadAt>(
     alloc: Global,
     file: &mut F,

@@ -1,4 +1,4 @@
--- What a report on values by a saved index writes and tells, where the bytes of the files are known.
+-- A report on values by a saved index: its output and its messages, where the bytes of the files are known.
 use Rattle.std.specs.Prelude.{◌≡◌, ℕ, List, Bool, false, Option, Some, map, string_bytes, take}
 use Rattle.std.specs.Io.KnownBytes.{Appends}
 use Rattle.jx_task.specs.declared.values_task.ValuesTask.{ValuesTask}
@@ -8,15 +8,15 @@ use Rattle.jx_values.specs.declared.form.Form.{Form}
 use Rattle.jx_values.specs.Values.{ValuesOutput}
 use Rattle.jx_walk_report.specs.Saved.{IsSavedOf, TellsApart}
 
--- where the index is that of a text, and the file has no other chunk with the digest of one of the text, this is what `get`
--- writes and tells of the text, which it reads by the settings of the index
+-- where the index is that of a text, and the file has no other chunk with the digest of one of the text, this is what
+-- `get` writes and reports of the text, which it reads by the settings of the index
 abbrev pub AreValues : Form → List (List ℕ) → Option (List ℕ) → Option (List ℕ) → List ℕ → List ℕ → Exit → Type 0
 AreValues form pointers saved content output tells exit =
     (task : ValuesTask) (chunk : ℕ) (text bytes file : List ℕ) → map string_bytes task.pointers.items ≡ pointers → IsSavedOf task.settings chunk text bytes
     → saved ≡ Some bytes → content ≡ Some file → TellsApart chunk text file
     → ValuesOutput form task text output tells exit
 
--- all of it was written, and what is told was told unless telling failed
+-- all of it was written, and the report was written unless reporting failed
 pub record WritesValues (form : Form) (pointers : List (List ℕ)) (saved content written grown : Option (List ℕ)) (is_lost : Bool) (told retold : Option (List ℕ)) (exit : Exit) : Type 0 where
   pub output : List ℕ
   pub tells : List ℕ

@@ -1,4 +1,4 @@
-// A chunk of a text that was read and held to its digest.
+// A chunk of a text that was read and checked against its checksum.
 ghost use Rattle.std.specs.Prelude.{◌≡◌, ◌-◌, ◌<◌, ◌≤◌, ◌↔◌, [], Some, true, false, length, slice_range, IfErr, IsErrOf, OnOk};
 ghost use Rattle.jx_walk.specs.Chunks.{chunk_at};
 ghost use Rattle.jx_walk_report.specs.Offsets.{HasSize};
@@ -104,7 +104,7 @@ fn read_chunk<F: ReadAt>(
     Ok(())
 }
 
-/// Holds the chunk that has the byte at an offset. It is read unless it is held already.
+/// Holds the chunk that has the byte at an offset. It is read unless it is kept already.
 pub(crate) fn hold<F: ReadAt>(
     file: &mut F,
     index: &Index,

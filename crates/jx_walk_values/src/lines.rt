@@ -23,7 +23,7 @@ use std::alloc::Global;
 /// How many bytes are written at a time, where a value has more.
 const BUFFER: usize = 64 * 1024;
 
-/// Writes the line of a pointer with this answer in these bytes, and adds what is told of it.
+/// Writes the line of a pointer with this answer in these bytes, and adds the report on it.
 fn write_line<W: Sink>(
     alloc: Global,
     writer: &mut W,
@@ -52,7 +52,7 @@ fn write_line<W: Sink>(
     }
 }
 
-/// Where the value stands that an answer tells of, and no bytes where it tells of none.
+/// The span of the value of an answer, and no bytes where it has none.
 fn span_of(answer: PointerAnswer) -> Span
     ensures { result ≡ span_of answer }
 {
@@ -76,7 +76,7 @@ fn alone(answer: PointerAnswer, len: usize) -> PointerAnswer
     }
 }
 
-/// Writes the line of a pointer with this answer once all bytes of its value were read, and adds what is told of it.
+/// Writes the line of a pointer with this answer once all bytes of its value were read, and adds the report on it.
 fn write_answer<F: ReadAt, W: Sink>(
     alloc: Global,
     file: &mut F,
@@ -115,7 +115,7 @@ fn write_answer<F: ReadAt, W: Sink>(
     )
 }
 
-/// The pointer with this number, counted from 0, as it was spelt.
+/// The pointer with this number, counted from 0, as it was written.
 fn pointer_at(pointers: &[String], number: usize) -> &str
     requires { number < length pointers.now }
     ensures { slice_get (map string_bytes pointers.now) number ≡ Some result.now }
@@ -131,7 +131,7 @@ fn answer_at(answers: &[PointerAnswer], number: usize) -> PointerAnswer
     answers[number]
 }
 
-/// Writes a line for each pointer with its answer, in their order, and answers what is told of them.
+/// Writes a line for each pointer with its answer, in their order, and answers the report on them.
 pub(crate) fn write_answers<F: ReadAt, W: Sink>(
     alloc: Global,
     file: &mut F,

@@ -14,7 +14,7 @@ pub record GoesOn (bytes : List ℕ) (old new : ReaderValue) : Type 0 where
   pub reads : (before : List ℕ) → HasRead before old → HasRead (before ++ bytes) new
   pub going : HasFailed old → ⊥
 
--- memory was refused
+-- out of memory
 pub record GivesUp (old new : ReaderValue) : Type 0 where
   pub settings : new.settings ≡ old.settings
   pub start : new.start ≡ old.start

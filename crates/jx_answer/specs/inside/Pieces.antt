@@ -1,4 +1,4 @@
--- A text that is read piece by piece.
+-- A text that is read chunk by chunk.
 use Rattle.std.specs.Prelude.{◌≡◌, ℕ, ◌+◌, ◌≤◌, List, ◌++◌, length, take}
 use Rattle.jx_run.specs.Reader.{ReaderValue, HasRead}
 

@@ -1,4 +1,4 @@
--- What the steps of answering on a sequence do to the list of elements.
+-- The effect of the steps of answering on a sequence on the list of elements.
 use Rattle.std.specs.Prelude.{◌≡◌, ℕ, ◌<◌, ◌≤◌, List, [], ◌∷◌, ◌++◌, length, nat_lt, if◌then◌else◌, slice_range, Some}
 use Rattle.std.specs.List.{AllZip}
 use Rattle.jx_summary.specs.declared.span.Span.{Span}
@@ -11,7 +11,7 @@ use Rattle.jx_answer.specs.declared.element.Element.{Element}
 use Rattle.jx_answer.specs.declared.element.ElementAnswer.TheVariants as answer
 use Rattle.jx_answer.specs.Sequence.{IsElement}
 
--- the reading of bytes of the input behind a record separator
+-- the reading of bytes of the input after a record separator
 pub record IsReadable (input : List ℕ) (s : StartedValue) : Type 0 where
   pub marked : 0 < s.span.start
   pub ordered : s.span.start ≤ s.span.end
@@ -32,7 +32,7 @@ pub record PushesEach (input : List ℕ) (done : List StartedValue) (old new : L
   pub new_is : new ≡ old ++ more
   pub each : AllZip (IsOfReading input) done more
 
--- one element more, unless its bytes are none
+-- one element more, unless it has no bytes
 pub record PushesFilled (input : List ℕ) (limit : ℕ) (p : Part) (old new : List Element) : Type 0 where
   pub more : List Element
   pub new_is : new ≡ old ++ more

@@ -1,4 +1,4 @@
-// One thread that reads a text by pieces.
+// One thread that reads a text by chunks.
 ghost use Rattle.std.specs.Prelude.{◌≡◌, ◌+◌, ◌<◌, ◌^◌, ◌++◌, ℕ, List, length, IsErr, OnErr, OnOk};
 ghost use Rattle.jx_run.specs.Reader.{HasFailed, HasRead};
 
@@ -7,16 +7,16 @@ use jx_crew::{Event, Gate, Go, PieceNo};
 use jx_run::{Pace, Reader};
 use std::alloc::AllocError;
 
-/// Reads the pieces of a cutting in order, as one worker, and asks a gate as each is begun, until it says stop. The rest
-/// is then read without a question. Where there is one piece, or none, it asks nothing.
+/// Reads the chunks of a division in order, as one worker, and asks a gate as each is begun, until it says stop. The
+/// rest is then read without a question. Where there is one chunk, or none, it asks nothing.
 pub(crate) struct Asking<'g, G> {
     cutting: &'g Cutting,
     gate: &'g G,
-    /// The piece that is begun next; as many as there are where no question is left.
+    /// The chunk that is begun next; as many as there are where no question is left.
     next: u32,
 }
 
-// A gate that is lent need not be one that may be let go.
+// A gate that is lent need not be one that may be freed.
 impl<'g, G> Drop for Asking<'g, G> {
     fn drop(self) {
         let Asking {
@@ -54,8 +54,8 @@ impl<'g, G: Gate> Pace for Asking<'g, G> {
     }
 }
 
-/// Lets a reader go on with a text, as one worker on this thread, and asks the gate as each piece of the cutting begins, until
-/// it says stop. A cutting of at most one piece asks no gate.
+/// Lets a reader go on with a text, as one worker on this thread, and asks the gate as each chunk of the division
+/// begins, until it says stop. A division of at most one chunk asks no gate.
 pub fn read_pieces<G: Gate>(
     reader: &mut Reader,
     text: &[u8],

@@ -1,4 +1,4 @@
-// Where a batch of a text sequence is cut: at record separators, so that each element stands in one piece.
+// Where a batch of a text sequence is cut: at record separators, so that each element stands in one chunk.
 ghost use Rattle.std.specs.Prelude.{◌≡◌, ◌≤◌, length, IfOk};
 
 use jx_claim::{CutFault, Cutting};
@@ -17,7 +17,7 @@ fn next_separator(batch: &[u8], from: usize) -> usize
     }
 }
 
-/// The first record separators behind so many bytes, counted from the batch's start and from each of them.
+/// The first record separators after so many bytes, counted from the batch's start and from each of them.
 fn element_cuts(alloc: Global, batch: &[u8], piece: usize) -> Result<Vec<usize>, AllocError>
     requires piece { 1 ≤ piece }
 {
@@ -32,8 +32,8 @@ fn element_cuts(alloc: Global, batch: &[u8], piece: usize) -> Result<Vec<usize>,
     Ok(cuts)
 }
 
-/// A batch in pieces of so many bytes and what is left of an element then. Where there is no memory to list them, the pieces
-/// have so many bytes.
+/// A batch in chunks of so many bytes and what is left of an element then. Where there is no memory to list them, the
+/// chunks have so many bytes.
 pub(crate) fn element_cutting(
     alloc: Global,
     batch: &[u8],

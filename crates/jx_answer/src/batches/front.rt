@@ -1,4 +1,4 @@
-// The front of a batch, which the first worker reads before it draws a piece.
+// The front of a batch, which the first worker reads before it takes a chunk.
 ghost use Rattle.std.specs.Prelude.{◌≡◌, ◌+◌, ◌<◌, ◌^◌, length, IfErr, IfOk};
 ghost use Rattle.jx_run.specs.Reader.{ReaderValue};
 ghost use Rattle.jx_answer.specs.inside.Fronts.{GivesUp, GoesOn, Leaves};
@@ -8,7 +8,7 @@ use jx_crew::{Event, Gate, Go, PieceNo};
 use jx_run::Reader;
 use std::alloc::AllocError;
 
-/// What became of the front of a batch.
+/// The result of reading the front of a batch.
 #[derive(Clone, Copy, Debug)]
 enum FrontState {
     /// It was not read, as the gate said stop before.
@@ -19,7 +19,7 @@ enum FrontState {
     Refused,
 }
 
-/// The front of a batch, and the reader of what stands before it. The gate is asked before it is read, and afterwards.
+/// The front of a batch, and the reader of what is before it. The gate is asked before it is read, and afterwards.
 pub(crate) struct Front<'b, 'g, G> {
     reader: Reader,
     bytes: &'b [u8],
@@ -28,7 +28,7 @@ pub(crate) struct Front<'b, 'g, G> {
     state: FrontState,
 }
 
-// A gate that is lent need not be one that may be let go.
+// A gate that is lent need not be one that may be freed.
 impl<'b, 'g, G> Drop for Front<'b, 'g, G> {
     fn drop(self) {
         let Front {
@@ -42,7 +42,7 @@ impl<'b, 'g, G> Drop for Front<'b, 'g, G> {
 }
 
 impl<'b, 'g, G> Front<'b, 'g, G> {
-    /// Of these bytes, which have the number of a piece for the gate, and are not read yet.
+    /// Of these bytes, which have the number of a chunk for the gate, and are not read yet.
     pub fn new(reader: Reader, bytes: &'b [u8], piece: PieceNo, gate: &'g G) -> Front<'b, 'g, G>
         ensures reader { result.reader ≡ reader }
         ensures bytes { result.bytes.now ≡ bytes.entry.now }
@@ -56,8 +56,8 @@ impl<'b, 'g, G> Front<'b, 'g, G> {
         }
     }
 
-    /// The reader behind the front, which is read here where no worker was let read it; the one that failed, where memory was
-    /// refused.
+    /// The reader after the front, which is read here where no worker was let read it; the one that failed, when out of
+    /// memory.
     pub fn into_reader(self) -> Result<Reader, Reader>
         requires fits { self.state ≡ FrontState.Unread → self.reader.start + self.reader.count + length self.bytes.now < 2 ^ 64 }
         ensures ok { IfOk result (λ reader. (old : ReaderValue) → Leaves self.entry.bytes.now old self.entry.state self.entry.reader → GoesOn self.entry.bytes.now old reader) }

@@ -37,11 +37,12 @@ pub fn judge_sequence<R: Threads + Wait + Sync, G: Gate + Sync>(
     judged_by_names(crew.alloc, text, settings, elements)
 }
 
-/// Judges the elements of a batch of a text sequence, which begins with a record separator and stands behind `before` bytes,
-/// by the crew. The last element ends with the batch. Offsets are those in the whole sequence. Several workers draw pieces of
-/// the batch, which have so many bytes and what is left of an element then, so that each element is read from its start; they
-/// put what they judged into a book. The gate is asked after each step, as by `work`. The calling thread judges what a worker
-/// was not let judge, or had no memory for. One worker asks no gate. Only want of memory is a fault.
+/// Judges the elements of a batch of a text sequence, which begins with a record separator and follows `before` bytes,
+/// by the crew. The last element ends with the batch. Offsets are those in the whole sequence. Several workers take
+/// chunks of the batch, which have so many bytes and what is left of an element then, so that each element is read from
+/// its start; they put what they judged into an accumulator. The gate is asked after each step, as by `work`. The
+/// calling thread judges what a worker was not let judge, or had no memory for. One worker asks no gate. The only fault
+/// is out of memory.
 pub fn judge_batch<R: Threads + Wait + Sync, G: Gate + Sync>(
     crew: &Crew<'_, R, G>,
     batch: &[u8],

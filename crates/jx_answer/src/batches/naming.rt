@@ -1,4 +1,4 @@
-// What a rule on the names of objects makes of verdicts on elements, from the bytes of a part of their sequence.
+// Verdicts on elements by a rule on the names of objects, from the bytes of a part of their sequence.
 ghost use Rattle.std.specs.Prelude.{◌≡◌, ◌+◌, ◌-◌, ◌<◌, ◌≤◌, ◌^◌, ◌↔◌, ℕ, List, IsTrue, IfOk, length, slice_range};
 ghost use Rattle.std.specs.List.{AllZip};
 ghost use Rattle.std.specs.Option.{option_map};
@@ -71,14 +71,14 @@ fn repeated_there(
     let read = repeated_name(alloc, bytes, Span { start: 0, end }, depth, &mut NoPause)?;
     match read {
         Ok(name) => Ok(name_behind(at, name)),
-        // The bytes are no text, wherever they stand.
+        // The bytes are not valid JSON, wherever they stand.
         Err(_) => Ok(None),
     }
 }
 
-/// What a rule on the names of objects (RFC 8259, section 4) makes of the verdict on an element of a text sequence, from the
-/// element's bytes alone. Only what is otherwise accepted is read, with the names of its open objects in memory. `Err` where
-/// memory is refused.
+/// The verdict on an element of a text sequence by a rule on the names of objects (RFC 8259, section 4), from the
+/// element's bytes alone. Only what is otherwise accepted is read, with the names of its open objects in memory. `Err`
+/// when out of memory.
 pub fn named_element(
     alloc: Global,
     bytes: &[u8],
@@ -95,7 +95,7 @@ pub fn named_element(
     Ok(element_unless(name, element))
 }
 
-/// The bytes of a part at a span of the sequence, where the part stands behind `before` bytes.
+/// The bytes of a part at a span of the sequence, where the part follows `before` bytes.
 fn bytes_at(part: &[u8], before: usize, span: Span) -> &[u8]
     requires from { before ≤ span.start }
     requires ordered { span.start ≤ span.end }
@@ -105,7 +105,7 @@ fn bytes_at(part: &[u8], before: usize, span: Span) -> &[u8]
     &part[span.start - before..span.end - before]
 }
 
-/// The same of all elements of a part of the sequence, which stands behind `before` bytes.
+/// The same of all elements of a part of the sequence, which follows `before` bytes.
 pub fn named_elements(
     alloc: Global,
     part: &[u8],

@@ -1,4 +1,4 @@
-// A batch of a text, which several workers read behind what was read of it.
+// A batch of a text, which several workers read after what was read of it.
 ghost use Rattle.std.specs.Prelude.{◌≡◌, ◌+◌, ◌<◌, ◌≤◌, ◌^◌, ◌++◌, ℕ, List, length, IfOk, IsErr, OnErr, OnOk};
 ghost use Rattle.jx_book.specs.Gathered.{IsRest};
 ghost use Rattle.jx_run.specs.Reader.{HasFailed, HasRead};
@@ -14,10 +14,10 @@ use std::mem;
 use std::sync::Wait;
 use std::thread::Threads;
 
-/// So many shares has a batch.
+/// In how many units the front of a batch is measured.
 const SHARES: usize = 256;
 
-/// The step by which the front of a batch grows or shrinks, at first and at the least, in shares.
+/// The step by which the front of a batch grows or shrinks, at first and at the least, in these units.
 const FIRST_STEP: usize = 32;
 
 const LEAST_STEP: usize = 4;
@@ -25,8 +25,9 @@ const LEAST_STEP: usize = 4;
 /// How many bytes several workers share, at the least.
 const LEAST_SHARED: usize = 1024 * 1024;
 
-/// How much of a batch one worker reads from where the text stands, while the others make runs of the pieces behind it. What
-/// a run costs depends on the text. So the front grows where pieces were left when it was read, and shrinks where none were.
+/// How much of a batch one worker reads from where the text stands, while the others make runs of the chunks after it.
+/// What a run costs depends on the text. So the front grows where chunks were left when it was read, and shrinks where
+/// none were.
 #[derive(Clone, Copy, Debug)]
 pub struct Balance {
     shares: usize,
@@ -53,7 +54,7 @@ impl Balance {
         whole.saturating_add(rest).min(len)
     }
 
-    /// Takes in whether pieces were left when the front was read.
+    /// Takes in whether chunks were left when the front was read.
     fn learn(&mut self, left_pieces: bool) {
         if left_pieces != self.left_pieces {
             self.step = (self.step / 2).max(LEAST_STEP);
@@ -69,8 +70,8 @@ impl Balance {
     }
 }
 
-/// Goes on by the run of the workers, or by the bytes where there is none, or where a byte order mark may still stand before
-/// them.
+/// Goes on by the run of the workers, or by the bytes where there is none, or where a byte order mark may still are
+/// before them.
 fn go_on(
     reader: &mut Reader,
     bytes: &[u8],
@@ -91,8 +92,8 @@ fn go_on(
     }
 }
 
-/// Reads a batch by several workers: the first one the front, from where the reader stands, and all of them the pieces behind
-/// it.
+/// Reads a batch by several workers: the first one the front, from where the reader stands, and all of them the chunks
+/// after it.
 fn read_shared<R: Threads + Wait + Sync, G: Gate + Sync>(
     crew: &Crew<'_, R, G>,
     reader: Reader,
@@ -136,15 +137,16 @@ pub fn is_short<G: Gate>(len: usize, gate: &G) -> bool {
     len < LEAST_SHARED && !gate.is_asked()
 }
 
-/// Reads a batch of a text, which stands behind the bytes that the reader has read, by the crew. Pieces have so many bytes.
-/// A batch of one piece is read on the calling thread, and asks no gate. One worker reads piece by piece, and asks the gate
-/// as each begins, until it says stop.
+/// Reads a batch of a text, which follows the bytes that the reader has read, by the crew. Chunks have so many bytes. A
+/// batch of one chunk is read on the calling thread, and asks no gate. One worker reads chunk by chunk, and asks the
+/// gate as each begins, until it says stop.
 ///
-/// Of several workers, the first reads the front of the batch from where the reader stands. All others, and the first one
-/// once it has read the front, draw the pieces behind that, make a run of each and put it into a book; the reader then
-/// follows what the book has in the end. The gate is asked after each step, as by `work`, and before and behind the front,
-/// whose number is that of no piece but the one behind the last. The calling thread reads what a worker was not let read, or
-/// had no memory for. Behind a fault no byte is looked at. Only want of memory is refused, and from then on every batch is.
+/// Of several workers, the first reads the front of the batch from where the reader stands. All others, and the first
+/// one once it has read the front, take the chunks after that, make a run of each and put it into an accumulator; the
+/// reader then follows what the accumulator has in the end. The gate is asked after each step, as by `work`, and before
+/// and after the front, whose number is that of no chunk but the one after the last. The calling thread reads what a
+/// worker was not let read, or had no memory for. After a fault no byte is looked at. Fails only when out of memory,
+/// and from then on every batch is.
 pub fn read_batch<R: Threads + Wait + Sync, G: Gate + Sync>(
     crew: &Crew<'_, R, G>,
     reader: &mut Reader,

@@ -1,4 +1,4 @@
-// What a rule on the names of objects makes of elements that are otherwise accepted.
+// Elements that are otherwise accepted, by a rule on the names of objects.
 ghost use Rattle.std.specs.Prelude.{◌≡◌, ℕ, List};
 ghost use Rattle.std.specs.List.{AllZip};
 ghost use Rattle.jx_run.specs.Elements.{Part};

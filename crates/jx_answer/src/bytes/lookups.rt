@@ -13,7 +13,7 @@ use jx_lex::Span;
 use std::alloc::{AllocError, Global};
 use std::thread::Threads;
 
-/// How many pieces a list of pointers is cut into at the most.
+/// How many chunks a list of pointers is cut into at the most.
 const MOST_PIECES: usize = 65536;
 
 /// The answer to the pointer at a place in the list of all pointers.
@@ -30,10 +30,10 @@ struct Lookups<'i> {
     pointers: &'i [Pointer<'i>],
 }
 
-/// Answers pointers in their order, as `Indexed::find` does, by that many workers, who draw pieces of the list. It waits
-/// for the workers. The gate is asked after each draw and may stop the worker; the calling thread answers what is left. One
-/// worker draws as each of several does. A list of at most one pointer starts no worker and asks no gate: the calling
-/// thread answers. Only want of memory is a fault.
+/// Answers pointers in their order, as `Indexed::find` does, by that many workers, who take chunks of the list. It
+/// waits for the workers. The gate is asked after each step and may stop the worker; the calling thread answers what is
+/// left. One worker takes as each of several does. A list of at most one pointer starts no worker and asks no gate: the
+/// calling thread answers. The only fault is out of memory.
 pub fn find_all<'i, R: Threads + Sync, G: Gate + Sync>(
     rt: &R,
     alloc: Global,
@@ -71,7 +71,7 @@ impl<'i> Lookups<'i> {
         self.in_order(crew.alloc, &places)
     }
 
-    /// What each worker found.
+    /// The answers that each worker found.
     fn found<R: Threads + Sync, G: Gate + Sync>(
         &self,
         crew: &Crew<'_, R, G>,
@@ -86,7 +86,7 @@ impl<'i> Lookups<'i> {
         self.by_seats(crew, &cutting, &claims, seats)
     }
 
-    /// Lets each worker draw, in a thread of its own where one can be made.
+    /// Lets each worker take chunks, in a thread of its own where one can be made.
     fn by_seats<R: Threads + Sync, G: Gate + Sync>(
         &self,
         crew: &Crew<'_, R, G>,
@@ -111,7 +111,7 @@ impl<'i> Lookups<'i> {
         )
     }
 
-    /// Draws pieces until none is left, the gate says stop or memory is refused, and answers the pointers in each.
+    /// Takes chunks until none is left, the gate says stop or it is out of memory, and answers the pointers in each.
     fn by_seat<R, G: Gate>(
         &self,
         crew: &Crew<'_, R, G>,
@@ -142,7 +142,7 @@ impl<'i> Lookups<'i> {
         found
     }
 
-    /// Answers each of the pointers of one piece.
+    /// Answers each of the pointers of one chunk.
     fn answer_piece(&self, piece: Span, found: &mut Vec<Answered>) -> Result<(), AllocError>
         requires ordered { piece.start ≤ piece.end }
         requires within { piece.end ≤ length self.now.pointers.now }
@@ -157,7 +157,7 @@ impl<'i> Lookups<'i> {
         Ok(())
     }
 
-    /// What `find` answers to the pointer at a place, with the row of its node.
+    /// The answer of `find` to the pointer at a place, with the row of its node.
     fn answer(&self, at: usize) -> Answer
         requires { at < length self.now.pointers.now }
         ensures { IsAnswerAt self.now.index.now self.now.pointers.now at result }
@@ -216,7 +216,7 @@ impl<'i> Lookups<'i> {
     }
 }
 
-/// What `find` answers to a pointer, with the row of its node.
+/// The answer of `find` to a pointer, with the row of its node.
 fn answer_to(index: &Indexed<'_>, pointer: &Pointer<'_>) -> Answer
     ensures { IsAnswerTo index.now pointer.now result }
 {
@@ -233,7 +233,7 @@ fn answer_to(index: &Indexed<'_>, pointer: &Pointer<'_>) -> Answer
     }
 }
 
-/// So many places with no answer.
+/// A list of so many places with no answer.
 fn nothing(alloc: Global, len: usize) -> Result<Vec<Option<Answer>>, AllocError>
     ensures len { IfOk result (λ v. vec_len v ≡ len) }
     ensures nothing { IfOk result (λ v. All (λ place. place ≡ None) v.items) }

@@ -28,11 +28,11 @@ use std::alloc::{AllocError, Global};
 use std::sync::Wait;
 use std::thread::Threads;
 
-/// Reads a JSON text sequence (RFC 7464) by that many workers, who draw the pieces of the cutting, and answers on each
+/// Reads a JSON text sequence (RFC 7464) by that many workers, who take the chunks of the division, and answers on each
 /// of its elements in order. A refused one does not stop the rest. It may wait for the workers. The gate is asked after
 /// each step of a worker and may stop the worker; the calling thread reads what is left. One worker reads as each of
-/// several does, in a thread of its own where one can be made. A cutting of at most one piece starts no worker and asks no
-/// gate: the calling thread reads. Only want of memory is a fault.
+/// several does, in a thread of its own where one can be made. A division of at most one chunk starts no worker and
+/// asks no gate: the calling thread reads. The only fault is out of memory.
 pub fn index_sequence<'a, R: Threads + Wait + Sync, G: Gate + Sync>(
     rt: &R,
     alloc: Global,
@@ -44,16 +44,16 @@ pub fn index_sequence<'a, R: Threads + Wait + Sync, G: Gate + Sync>(
 ) -> Result<Vec<Element<'a>>, Fault>
     requires cutting { cutting.now.len ≡ length text.now }
     requires front { cutting.now.front ≡ 0 }
-    // For every cutting, number of workers and gate, these are the answers on the elements of the bytes.
+    // For every division, number of workers and gate, these are the answers on the elements of the bytes.
     ensures elements { IfOk result (λ elements. AreElements text.entry.now depth elements.items) }
 {
     settings_that_are_off_change_no_answer();
     index_sequence_with(rt, alloc, text, cutting, workers, &depth.into(), gate)
 }
 
-/// The same by settings. Where a byte order mark is ignored, one that stands alone before the first record separator is no
-/// element; a mark in an element is refused as ever. Where names have to be unique, an element that is otherwise accepted is
-/// refused for the first name that an object repeats.
+/// The same by settings. Where a byte order mark is ignored, one that stands alone before the first record separator is
+/// no element; a token start in an element is refused as ever. Where names have to be unique, an element that is
+/// otherwise accepted is refused for the first name that an object repeats.
 pub fn index_sequence_with<'a, R: Threads + Wait + Sync, G: Gate + Sync>(
     rt: &R,
     alloc: Global,
@@ -187,7 +187,7 @@ fn push_done<'a>(
     Ok(())
 }
 
-/// The bytes behind the last record separator, unless there are none.
+/// The bytes after the last record separator, unless there are none.
 fn push_last<'a>(
     alloc: Global,
     text: &'a [u8],
@@ -208,7 +208,7 @@ fn push_last<'a>(
     Ok(())
 }
 
-/// An element that stands behind a record separator, with its answer.
+/// An element that follows a record separator, with its answer.
 fn element_of<'a>(
     alloc: Global,
     text: &'a [u8],
@@ -224,7 +224,7 @@ fn element_of<'a>(
     })
 }
 
-/// What is answered on an element that stands behind a record separator.
+/// The answer on an element that follows a record separator.
 fn answer_of<'a>(
     alloc: Global,
     text: &'a [u8],

@@ -24,11 +24,11 @@ use std::alloc::{AllocError, Global};
 use std::sync::Wait;
 use std::thread::Threads;
 
-/// Reads a JSON text (RFC 8259) by that many workers, who draw the pieces of the cutting, and indexes it where it is
+/// Reads a JSON text (RFC 8259) by that many workers, who take the chunks of the division, and indexes it where it is
 /// accepted. It may wait for the workers. The gate is asked after each step of a worker and may stop the worker; the
-/// calling thread reads what is left. One worker alone starts no thread: the calling thread reads piece by piece, and asks
-/// the gate as each begins, until it says stop. A cutting of at most one piece starts no worker and asks no gate. Only want
-/// of memory is a fault.
+/// calling thread reads what is left. One worker alone starts no thread: the calling thread reads chunk by chunk, and
+/// asks the gate as each begins, until it says stop. A division of at most one chunk starts no worker and asks no gate.
+/// The only fault is out of memory.
 pub fn index_text<'a, R: Threads + Wait + Sync, G: Gate + Sync>(
     rt: &R,
     alloc: Global,
@@ -40,7 +40,7 @@ pub fn index_text<'a, R: Threads + Wait + Sync, G: Gate + Sync>(
 ) -> Result<TextAnswer<'a>, Fault>
     requires cutting { cutting.now.len ≡ length text.now }
     requires front { cutting.now.front ≡ 0 }
-    // For every cutting, number of workers and gate, it is the answer that the standard gives for the bytes.
+    // For every division, number of workers and gate, it is the answer that the standard gives for the bytes.
     ensures answer { IfOk result (λ answer. IsAnswer text.entry.now depth answer) }
 {
     settings_that_are_off_change_no_answer();
@@ -48,8 +48,8 @@ pub fn index_text<'a, R: Threads + Wait + Sync, G: Gate + Sync>(
 }
 
 /// The same by settings. Where a byte order mark is ignored, one may stand in front of the text. It is skipped here, so
-/// the cutting is of the whole input; offsets count the bytes of the mark. Where names have to be unique, what is otherwise
-/// accepted is refused for the first name that an object repeats.
+/// the division is of the whole input; offsets count the bytes of the byte order mark. Where names have to be unique, what
+/// is otherwise accepted is refused for the first name that an object repeats.
 pub fn index_text_with<'a, R: Threads + Wait + Sync, G: Gate + Sync>(
     rt: &R,
     alloc: Global,
@@ -94,9 +94,9 @@ fn index_behind_front<'a, R: Threads + Wait + Sync, G: Gate + Sync>(
     }
 }
 
-/// The verdict that `index_text_with` comes to, without the index. One worker alone starts no thread, and neither do names
-/// that have to be unique: the calling thread reads piece by piece, and asks the gate as each begins, until it says stop. A
-/// cutting of at most one piece asks no gate. Only want of memory is a fault.
+/// The verdict that `index_text_with` gives, without the index. One worker alone starts no thread, and neither do
+/// names that have to be unique: the calling thread reads chunk by chunk, and asks the gate as each begins, until it
+/// says stop. A division of at most one chunk asks no gate. The only fault is out of memory.
 pub fn verdict_of_text<R: Threads + Wait + Sync, G: Gate + Sync>(
     crew: &Crew<'_, R, G>,
     text: &[u8],
@@ -144,7 +144,7 @@ fn verdict_whatever_names<R: Threads + Wait + Sync, G: Gate + Sync>(
 }
 
 /// The rows of the index that `index_text_with` makes, or the refusal. No children are listed, and no names sorted. The
-/// calling thread reads, piece by piece, as it does for one worker. Only want of memory is a fault.
+/// calling thread reads, chunk by chunk, as it does for one worker. The only fault is out of memory.
 pub fn rows_of_text<R, G: Gate>(
     crew: &Crew<'_, R, G>,
     text: &[u8],
@@ -191,7 +191,7 @@ fn rows_behind_front<R, G: Gate>(
     }
 }
 
-/// The cutting without its first bytes.
+/// The division without its first bytes.
 fn behind(alloc: Global, cutting: &Cutting, front: usize) -> Result<Cutting, AllocError>
     requires from { cutting.now.front ≡ 0 }
     requires within { front ≤ cutting.now.len }
@@ -202,7 +202,7 @@ fn behind(alloc: Global, cutting: &Cutting, front: usize) -> Result<Cutting, All
     Ok(copy.without_front(front))
 }
 
-/// The answer on the text from the cutting's front on.
+/// The answer on the text from the division's front on.
 fn index_rest<'a, R: Threads + Wait + Sync, G: Gate + Sync>(
     crew: &Crew<'_, R, G>,
     text: &'a [u8],
@@ -220,7 +220,7 @@ fn index_rest<'a, R: Threads + Wait + Sync, G: Gate + Sync>(
     TextAnswer::of_run(crew.alloc, text, run.run())
 }
 
-/// The run over a text from the cutting's front on. A text of one piece, or of none, is read on this thread.
+/// The run over a text from the division's front on. A text of one chunk, or of none, is read on this thread.
 pub(crate) fn read_text<'a, S: Summary + Send, R: Threads + Wait + Sync, G: Gate + Sync>(
     crew: &Crew<'_, R, G>,
     text: &'a [u8],

@@ -6,7 +6,7 @@ use Rattle.jx_lex.specs.Whole.{PassesNumber, PassesLiteral}
 abbrev pub IsScalar : List ℕ → ℕ → ℕ → Type 0
 IsScalar text from to = PassesNumber text from to ⊎ PassesLiteral text from to
 
--- a run of bytes of scalars from byte k of a block on is one scalar, and a byte before which it ends stands behind it
+-- a run of bytes of scalars from byte k of a block on is one scalar, and a byte before which it ends follows it
 pub record IsWhole (text : List ℕ) (at : ℕ) (scalar stop : ℕ → Bool) (k : ℕ) : Type 0 where
   pub end : ℕ
   pub low : k < end

@@ -1,4 +1,4 @@
--- What workers begin and end with.
+-- The state with which workers begin and end.
 use Rattle.std.specs.Prelude.{◌≡◌, ◌+◌, List, [], Bool, true, false, Ok, Err}
 use Rattle.std.specs.declared.result.Result.{Result}
 use Rattle.jx_summary.specs.declared.span.Span.{Span}
@@ -15,17 +15,18 @@ use Rattle.jx_book.specs.Worked.{hand_len}
 abbrev pub IsFresh : {P T : Type 0} → TableId → Job P T → Type 0
 IsFresh id j = (j.seat.id ≡ id) × (j.seat.got ≡ []) × (j.seat.spent ≡ false) × (j.share ≡ share 0 0)
 
--- the bytes of the pieces that the seat drew are what the share put, minus what it took, plus what is in the hand
+-- the bytes of the chunks that the worker handle drew are what the share put, minus what it took, plus what is in the
+-- hand
 abbrev pub Balances : {S P T : Type 0} → List Span → TableId → Result (WorkerEnd P T) (WorkerStop S P T) → Type 0
 Balances ps id (Ok e) = (e.seat.id ≡ id) × (e.seat.spent ≡ true) × (drawn_len ps e.seat.got + e.share.taken ≡ e.share.put)
 Balances ps id (Err s) = (s.seat.id ≡ id) × (drawn_len ps s.seat.got + s.share.taken ≡ s.share.put + hand_len ps s.hand)
 
--- a worker whose errand ended by a cause stops for that cause
+-- a worker whose extra task gave a cause stops for that cause
 abbrev pub StopsFor : {S P T : Type 0} → Result (Unit {0}) Cause → Result (WorkerEnd P T) (WorkerStop S P T) → Type 0
 StopsFor (Ok ended) end = Unit {0}
 StopsFor (Err cause) (Ok e) = ⊥
 StopsFor (Err cause) (Err s) = s.cause ≡ cause
 
--- the seat is of these claims; where the worker ended, it is spent, and nothing is in a hand
+-- the worker handle is of these claims; where the worker ended, it is spent, and nothing is in a hand
 abbrev pub IsHandedBack : List Span → TableId → SeatValue → ShareValue → Bool → Type 0
 IsHandedBack ps id seat s ended = (seat.id ≡ id) × (ended ≡ true → (seat.spent ≡ true) × (drawn_len ps seat.got + s.taken ≡ s.put))

@@ -34,11 +34,11 @@ impl<'a, S: Summary, P: Ledger, T: Ledger> Model for Book<'a, S, P, T> {
 }
 
 impl<'a, S: Summary, P: Ledger, T: Ledger> Book<'a, S, P, T> {
-    /// An empty book, and a share for each worker. The blanks name the ledgers of its totals. It fails only for want of
-    /// memory.
+    /// An empty accumulator, and a share for each worker. The `blanks` name the ledgers of its totals. It fails only
+    /// when out of memory.
     ///
-    /// With it comes the law of the hand-over machine. Whatever the workers do in whatever order, each piece is
-    /// undrawn, in one hand or in one stored block, and in no two of these.
+    /// With it comes the law of the hand-over machine. Whatever the workers do in whatever order, each chunk is
+    /// untaken, in one hand or in one stored block, and in no two of these.
     pub fn open(
         alloc: Global,
         put: Blank,
@@ -67,12 +67,12 @@ impl<'a, S: Summary, P: Ledger, T: Ledger> Book<'a, S, P, T> {
         self.locked.lock(rt).put(share, run)
     }
 
-    /// Takes all shares, and gives the stored runs in order, each now carrying this text. Their lengths add up to the
-    /// bytes put minus the bytes taken. It takes no memory and waits for nobody.
+    /// Takes every `Share`, and gives the stored runs in order, each now carrying this text. Their lengths add up to
+    /// the bytes put minus the bytes taken. It takes no memory and waits for nobody.
     ///
-    /// A stored run that is not of this text and depth is handed back; the other runs are let go. Which runs stood there,
-    /// the lock forgets: of the run the contract says that it is not empty, and no longer than the bytes put minus the bytes
-    /// taken.
+    /// A stored run that is not of this text and depth is handed back; the other runs are freed. Which runs stood
+    /// there, the lock forgets: of the run the contract says that it is not empty, and no longer than the bytes put
+    /// minus the bytes taken.
     pub fn finish(
         self,
         text: &'a [u8],
@@ -92,12 +92,12 @@ impl<'a, S: Summary, P: Ledger, T: Ledger> Book<'a, S, P, T> {
     }
 }
 
-/// Why a book was not finished.
+/// Why an accumulator was not finished.
 #[derive(Debug, Drop, Error)]
 #[error_bound(S: Debug)]
 pub enum FinishFault<'a, S: Summary> {
     /// A stored run has another depth, lies outside the text handed in, or has other bytes at its span there. From
-    /// `gather`, it may also begin before the cutting's front.
+    /// `gather`, it may also begin before the division's front.
     #[error("a stored run is of another text or depth")]
     Other(Held<'a, S>),
 }

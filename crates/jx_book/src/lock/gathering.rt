@@ -12,11 +12,11 @@ use jx_claim::{ClaimSeat, Claims, Cutting};
 use jx_summary::{Depth, Summary};
 use std::sync::ledger::Ledger;
 
-/// The one run over all pieces, where every worker ended; or none, exactly where there are no pieces. It takes no memory
-/// and waits for nobody.
+/// The one run over all chunks, where every worker ended; or none, exactly where there are no chunks. It takes no
+/// memory and waits for nobody.
 ///
-/// A stored run that is not of this text and depth is handed back, as by `Book::finish`, and so is one that begins before
-/// the cutting's front.
+/// A stored run that is not of this text and depth is handed back, as by `Book::finish`, and so is one that begins
+/// before the division's front.
 pub fn gather<'a, S: Summary, P: Ledger, T: Ledger>(
     book: Book<'a, S, P, T>,
     claims: Claims,

@@ -1,4 +1,4 @@
-// What the lock of a book guards.
+// The state behind the lock of an accumulator.
 ghost use Rattle.std.specs.Prelude.{◌≡◌, ◌+◌, ◌<◌, sum_by, vec_len};
 ghost use Rattle.jx_book.specs.Runs.{IsApart, run_len};
 ghost use Rattle.jx_book.specs.Shares.{IsShared};
@@ -11,7 +11,7 @@ use std::alloc::Global;
 use std::sync::ledger;
 use std::sync::ledger::Ledger;
 
-/// The runs, and the ledgers of what all shares put and took: their totals are those of the runs.
+/// The runs, and the ledgers of what every `Share` put and took: their totals are those of the runs.
 #[derive(Drop)]
 pub struct Locked<'a, S: Summary, P: Ledger, T: Ledger> {
     state: BookState<'a, S>,
@@ -59,7 +59,7 @@ impl<'a, S: Summary, P: Ledger, T: Ledger> Locked<'a, S, P, T> {
         answer
     }
 
-    /// Takes all shares, which tell what the runs cover together, and gives the runs.
+    /// Takes every `Share`, which together cover what the runs cover, and gives the runs.
     pub fn into_runs(self, shares: Vec<Share<P, T>>) -> Vec<Held<'a, S>>
         requires some { 0 < vec_len shares }
         requires put { vec_len shares ≡ P.parts }
@@ -79,7 +79,7 @@ impl<'a, S: Summary, P: Ledger, T: Ledger> Locked<'a, S, P, T> {
     }
 }
 
-/// The ledgers' parts of all shares.
+/// The ledgers' parts of every `Share`.
 fn merge_all<P: Ledger, T: Ledger>(
     mut shares: Vec<Share<P, T>>,
 ) -> (ledger::Share<P>, ledger::Share<T>)

@@ -5,7 +5,7 @@ use std::marker::Model;
 use std::sync::ledger;
 use std::sync::ledger::Ledger;
 
-/// One worker's part of a book's totals: the bytes that it put, and those that it took out.
+/// One worker's part of an accumulator's totals: the bytes that it put, and those that it took out.
 #[derive(Drop)]
 pub struct Share<P: Ledger, T: Ledger> {
     put: ledger::Share<P>,

@@ -7,8 +7,8 @@ use crate::stored::held::{Held, HeldFault};
 use jx_summary::{Depth, Summary};
 use std::alloc::{AllocError, Global};
 
-/// The run over a text from an offset on: each gap that the runs leave there is read as one piece, and all are joined. Runs
-/// that begin before that offset are let go. It fails only for want of memory.
+/// The run over a text from an offset on: each gap that the runs leave there is read as one chunk, and all are joined.
+/// Runs that begin before that offset are freed. It fails only when out of memory.
 pub fn assemble<'a, S: Summary>(
     alloc: Global,
     closed: Closed<'a, S>,

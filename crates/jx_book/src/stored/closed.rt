@@ -7,7 +7,7 @@ use crate::stored::held::Held;
 use jx_summary::{Span, Summary};
 use std::marker::Model;
 
-/// The runs of a finished book, in rising order, no two overlapping or touching.
+/// The runs of a finished accumulator, in rising order, no two overlapping or touching.
 #[derive(Drop)]
 pub struct Closed<'a, S: Summary> {
     runs: Vec<Held<'a, S>>,
@@ -25,7 +25,7 @@ impl<'a, S: Summary> Model for Closed<'a, S> {
 }
 
 impl<'a, S: Summary> Closed<'a, S> {
-    /// The runs of a finished book, given in rising order, no two overlapping or touching.
+    /// The runs of a finished accumulator, given in rising order, no two overlapping or touching.
     pub(crate) fn new(runs: Vec<Held<'a, S>>) -> Closed<'a, S>
         requires { IsApart runs.items }
         ensures { result ≡ runs.entry.items }
@@ -50,7 +50,7 @@ impl<'a, S: Summary> Closed<'a, S> {
         runs
     }
 
-    /// The gaps of a span: the stretches of it that no run covers, in order. It takes no memory.
+    /// The gaps of a span: the parts of it that no run covers, in order. It takes no memory.
     pub fn gaps(&self, span: Span) -> Gaps<'_, 'a, S>
         ensures { AreGaps (spans_of self.now) span result }
     {

@@ -7,11 +7,11 @@ use crate::stored::held::Held;
 use jx_summary::{Span, Summary};
 use std::marker::Model;
 
-/// The stretches of a span that no run covers, in order.
+/// The parts of a span that no run covers, in order.
 #[derive(Drop)]
 pub struct Gaps<'r, 'a, S: Summary> {
     runs: &'r [Held<'a, S>],
-    // The number of the first run behind the next gap.
+    // The number of the first run after the next gap.
     number: usize,
     // Where the next gap begins.
     start: usize,
@@ -32,7 +32,7 @@ impl<'r, 'a, S: Summary> Model for Gaps<'r, 'a, S> {
 }
 
 impl<'r, 'a, S: Summary> Gaps<'r, 'a, S> {
-    /// All stretches of a span that none of these runs covers.
+    /// All parts of a span that none of these runs covers.
     pub(crate) fn new(runs: &'r [Held<'a, S>], span: Span) -> Gaps<'r, 'a, S>
         ensures { result ≡ gaps_from span.start (spans_of runs.entry.now) span.end }
     {
@@ -60,7 +60,7 @@ impl<'r, 'a, S: Summary> Iterator for Gaps<'r, 'a, S> {
     }
 }
 
-/// The first gap from an offset on, with this run and later ones behind it; then the number and the offset from which
+/// The first gap from an offset on, with this run and later ones after it; then the number and the offset from which
 /// the other gaps are found.
 fn first_gap<S: Summary>(
     runs: &[Held<'_, S>],

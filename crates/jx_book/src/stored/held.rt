@@ -39,7 +39,7 @@ impl<'a, S: Summary> Model for Held<'a, S> {
 }
 
 impl<'a, S: Summary> Held<'a, S> {
-    /// Reads the bytes from the offset `start` up to the offset `end`. It fails only for want of memory.
+    /// Reads the bytes from the offset `start` up to the offset `end`. It fails only when out of memory.
     pub fn read(
         alloc: Global,
         text: &'a [u8],

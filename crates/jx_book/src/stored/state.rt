@@ -7,7 +7,7 @@ use jx_summary::{Span, Summary};
 use std::alloc::{AllocFailed, Global};
 use std::marker::Model;
 
-/// What became of a run that was put. The first that fits is answered.
+/// The answer to a run that was put. The first that fits is given.
 #[derive(Drop)]
 pub enum Put<'a, S: Summary> {
     /// A stored run has a byte of it: the run.
@@ -16,7 +16,7 @@ pub enum Put<'a, S: Summary> {
     Full(Held<'a, S>),
     /// The run, and a neighbour that was taken out, the left one if both sides touch.
     Touches(Held<'a, S>, Held<'a, S>),
-    /// In place of `Stored`, for want of memory: the run.
+    /// In place of `Stored`, when out of memory: the run.
     Memory(Held<'a, S>),
     /// The run stands among the others now.
     Stored,
@@ -30,7 +30,7 @@ pub(crate) enum Position {
     Left(usize),
     /// The run with this number begins where it ends, and none touches it on the left.
     Right(usize),
-    /// It touches none, and stands before the run with this number.
+    /// It touches none, and is before the run with this number.
     Free(usize),
 }
 
@@ -100,7 +100,7 @@ impl<'a, S: Summary> BookState<'a, S> {
         self.taken
     }
 
-    /// The number of the first run that ends at this offset or behind it, found by halving.
+    /// The number of the first run that ends at this offset or after it, found by halving.
     fn first_from(&self, start: usize) -> usize
         ensures bound { result ≤ length self.now.runs }
         ensures below { (k : ℕ) (d : _) → k < result → (slice_index_or self.now.runs k d).span.end < start }
@@ -159,8 +159,8 @@ impl<'a, S: Summary> BookState<'a, S> {
         }
     }
 
-    /// Stores a run that touches no stored one; else takes a neighbour out and hands over both. `Put` tells every
-    /// answer. Only `Stored` and `Touches` change the state.
+    /// Stores a run that touches no stored one; else takes a neighbour out and hands over both. `Put` has every answer.
+    /// Only `Stored` and `Touches` change the state.
     pub fn put(&mut self, run: Held<'a, S>) -> Put<'a, S>
         requires { run.span.start < run.span.end }
         ensures { IsPut self.old run.entry result self.new }

@@ -3,18 +3,18 @@ ghost use Rattle.jx_book.specs.declared.workers.worker.Cause.{Cause};
 
 use crate::workers::worker::Cause;
 
-/// What the first worker does before it draws a piece, as to read what stands in front of the text by means of its own.
+/// An extra task of the first worker before it takes a chunk, as to read the front of the text by means of its own.
 pub trait Errand: Drop {
-    /// What it needs.
+    /// The requirement of the task.
     ghost needs: { Self → Type 0 };
 
-    /// What it leaves, of what it was.
+    /// The task after it was run, by what it was before.
     ghost leaves: { Self → Self → Type 0 };
 
-    /// How it may end where it leaves this.
+    /// The result that the task may have, by the task after it was run.
     ghost ends: { Self → Result (Unit {0}) Cause → Type 0 };
 
-    /// Does it. Where it ends by a cause its worker draws no piece, and stops for that cause.
+    /// Runs it. Where it gives a cause, its worker takes no chunk and stops for that cause.
     fn run(&mut self) -> Result<(), Cause>
         requires { needs self.old }
         ensures leaves { leaves self.old self.new }

@@ -25,14 +25,14 @@ use std::sync::ledger::{Blank, Ledger};
 use std::thread;
 use std::thread::Threads;
 
-/// What a worker begins with.
+/// The handles with which a worker begins.
 #[derive(Drop)]
 struct Job<P: Ledger, T: Ledger> {
     seat: ClaimSeat,
     share: Share<P, T>,
 }
 
-/// What the workers handed back, and whether each of them ended.
+/// The handles that the workers gave back, and whether each of them ended.
 #[derive(Drop)]
 struct Returned<P: Ledger, T: Ledger> {
     seats: Vec<ClaimSeat>,
@@ -40,7 +40,7 @@ struct Returned<P: Ledger, T: Ledger> {
     ended: bool,
 }
 
-/// The book of a text and the claims on its pieces, with what each worker begins with.
+/// The accumulator of a text and the claims on its chunks, with what each worker begins with.
 #[derive(Drop)]
 struct Opened<'a, S: Summary, P: Ledger, T: Ledger> {
     book: Book<'a, S, P, T>,
@@ -49,21 +49,21 @@ struct Opened<'a, S: Summary, P: Ledger, T: Ledger> {
     others: Vec<Job<P, T>>,
 }
 
-/// What a crew comes to that reads a text while its first worker has an errand.
+/// The result of a crew that reads a text while its first worker has an extra task.
 #[derive(Drop)]
 pub struct Round<'a, S: Summary, E: Errand> {
-    /// The errand, which was run.
+    /// The extra task, which was run.
     pub errand: E,
-    /// The run over the text from the cutting's front on. Only want of memory is a fault.
+    /// The run over the text from the division's front on. The only fault is out of memory.
     pub run: Result<Held<'a, S>, AllocError>,
-    /// How many bytes the first worker put into the book behind its errand.
+    /// How many bytes the first worker put into the accumulator after its extra task.
     pub put: u128,
 }
 
-/// Reads a text from the cutting's front on by the crew, each worker in a thread of its own where one can be made. It waits
-/// for them, and fails only for want of memory.
+/// Reads a text from the division's front on by the crew, each worker in a thread of its own where one can be made. It
+/// waits for them, and fails only when out of memory.
 ///
-/// Where a worker stopped, the calling thread reads what is missing, each gap as one piece. Where there is no piece, it
+/// Where a worker stopped, the calling thread reads what is missing, each gap as one chunk. Where there is no chunk, it
 /// gives the empty run.
 pub fn read_whole<'a, S: Summary + Send, R: Threads + Wait + Sync, G: Gate + Sync>(
     crew: &Crew<'_, R, G>,
@@ -82,8 +82,8 @@ pub fn read_whole<'a, S: Summary + Send, R: Threads + Wait + Sync, G: Gate + Syn
     run
 }
 
-/// The same, while the first worker has an errand: it draws its first piece behind that, unless the errand says stop. The
-/// errand is run even where memory is refused.
+/// The same, while the first worker has an extra task: it takes its first chunk after that, unless the task says stop.
+/// The task is run even when out of memory.
 pub fn read_beside<
     'a,
     S: Summary + Send,
@@ -107,7 +107,7 @@ pub fn read_beside<
     read_with::<S, Brand, Brand, E, R, G>(crew, text, cutting, depth, errand, put, taken)
 }
 
-/// The same, with blanks for the ledgers of a book.
+/// The same, with `blanks` for the ledgers of an accumulator.
 fn read_with<
     'a,
     S: Summary + Send,
@@ -152,7 +152,7 @@ fn read_with<
     Round { errand, run, put }
 }
 
-/// The errand alone, where memory was refused.
+/// The extra task alone, when out of memory.
 fn alone<'a, S: Summary, E: Errand>(errand: E) -> Round<'a, S, E>
     requires { E.needs errand }
     ensures errand { E.leaves errand result.errand }
@@ -167,7 +167,7 @@ fn alone<'a, S: Summary, E: Errand>(errand: E) -> Round<'a, S, E>
     }
 }
 
-/// A book, claims on the pieces, and a seat with a share for each worker.
+/// An accumulator, claims on the chunks, and a worker handle with a share for each worker.
 fn open<'a, S: Summary, P: Ledger, T: Ledger, R, G>(
     crew: &Crew<'_, R, G>,
     cutting: &Cutting,
@@ -197,7 +197,7 @@ fn open<'a, S: Summary, P: Ledger, T: Ledger, R, G>(
     })
 }
 
-/// A seat and a share for each worker.
+/// A worker handle and a share for each worker.
 fn pair<P: Ledger, T: Ledger>(
     alloc: Global,
     claims: &Claims,
@@ -220,8 +220,8 @@ fn pair<P: Ledger, T: Ledger>(
     Ok(jobs)
 }
 
-/// Lets the first worker run the errand and then work, and the others work, each in a thread of its own where one can be
-/// made.
+/// Lets the first worker run the extra task and then work, and the others work, each in a thread of its own where one
+/// can be made.
 fn work_all<
     'a,
     S: Summary + Send,
@@ -267,7 +267,7 @@ fn work_all<
     (errand, end, ends)
 }
 
-/// Runs the errand, and lets its worker draw afterwards. Where the errand ends by a cause, the worker stops for that cause.
+/// Runs the extra task, and lets its worker take chunks after it. If the task gives a cause, the worker stops for it.
 fn work_behind<'a, S: Summary, P: Ledger, T: Ledger, E: Errand, R: Wait, G: Gate>(
     crew: &Crew<'_, R, G>,
     book: &Book<'a, S, P, T>,
@@ -337,7 +337,7 @@ fn work_each<
     )
 }
 
-/// How all workers ended, the first one behind the others.
+/// How all workers ended, the first one after the others.
 fn all_ends<'a, S: Summary, P: Ledger, T: Ledger>(
     cutting: &Cutting,
     claims: &Claims,
@@ -355,7 +355,7 @@ fn all_ends<'a, S: Summary, P: Ledger, T: Ledger>(
     Ok(all)
 }
 
-/// The run over the text from the cutting's front on, of what the workers put and handed back.
+/// The run over the text from the division's front on, of what the workers put and handed back.
 fn gathered<'a, S: Summary, P: Ledger, T: Ledger>(
     alloc: Global,
     book: Book<'a, S, P, T>,
@@ -387,7 +387,7 @@ fn gathered<'a, S: Summary, P: Ledger, T: Ledger>(
     read_alone(alloc, text, cutting, depth)
 }
 
-/// The run over the text from the cutting's front on, read as one piece.
+/// The run over the text from the division's front on, read as one chunk.
 fn read_alone<'a, S: Summary>(
     alloc: Global,
     text: &'a [u8],
@@ -410,7 +410,7 @@ fn total_put<'a, S: Summary, P: Ledger, T: Ledger>(
     }
 }
 
-/// The seats and shares of all workers, and whether each of them ended.
+/// The `Seat` and the `Share` of each worker, and whether each of them ended.
 fn collect<'a, S: Summary, P: Ledger, T: Ledger>(
     alloc: Global,
     cutting: &Cutting,
@@ -439,7 +439,7 @@ fn collect<'a, S: Summary, P: Ledger, T: Ledger>(
     })
 }
 
-/// What a worker handed back, and whether it ended.
+/// The handles that a worker gave back, and whether it ended.
 fn handed_back<'a, S: Summary, P: Ledger, T: Ledger>(
     end: Result<WorkerEnd<P, T>, WorkerStop<'a, S, P, T>>,
 ) -> (ClaimSeat, Share<P, T>, bool)

@@ -15,7 +15,7 @@ use std::alloc::Global;
 use std::sync::Wait;
 use std::sync::ledger::Ledger;
 
-/// A worker that handed over all that it drew, until no piece was left.
+/// A worker that handed over all that it drew, until no chunk was left.
 #[derive(Drop)]
 pub struct WorkerEnd<P: Ledger, T: Ledger> {
     pub seat: ClaimSeat,
@@ -29,19 +29,19 @@ pub enum Cause {
     Gate,
     /// There was no memory to read, to join or to store.
     Memory,
-    /// The book had a run with a byte of the one in hand.
+    /// The accumulator had a run with a byte of the one in hand.
     Overlap,
     /// A neighbour was of another text or depth.
     Other,
-    /// A total of the book would have passed the greatest `u128`.
+    /// A total of the accumulator would have passed the greatest `u128`.
     Full,
 }
 
-/// What a stopped worker holds: nobody else has it.
+/// The state of a stopped worker: nobody else has it.
 #[derive(Drop)]
 pub enum Hand<'a, S: Summary> {
     Nothing,
-    /// A piece that it drew and did not read.
+    /// A chunk that it drew and did not read.
     Piece(PieceNo),
     /// A run that was not put.
     One(Held<'a, S>),
@@ -59,7 +59,7 @@ pub struct WorkerStop<'a, S: Summary, P: Ledger, T: Ledger> {
 }
 
 impl<'a, S: Summary, P: Ledger, T: Ledger> WorkerStop<'a, S, P, T> {
-    /// A stopped worker with its seat, its share, what is in its hand and why it stopped.
+    /// A stopped worker with its worker handle, its share, what is in its hand and why it stopped.
     pub(crate) fn new(
         seat: ClaimSeat,
         share: Share<P, T>,
@@ -88,7 +88,7 @@ struct Unfinished<'a, S: Summary> {
 }
 
 impl<'a, S: Summary> Unfinished<'a, S> {
-    /// What is left in the hand, and why it was not handed over.
+    /// The run that is left in the hand, and why it was not handed over.
     fn new(hand: Hand<'a, S>, cause: Cause) -> Unfinished<'a, S>
         ensures hand { result.hand ≡ hand.entry }
         ensures cause { result.cause ≡ cause }
@@ -97,11 +97,12 @@ impl<'a, S: Summary> Unfinished<'a, S> {
     }
 }
 
-/// Draws pieces until none is left; reads each and puts it into the book, joined with each neighbour that it is handed.
-/// The gate is asked after each step.
+/// Takes chunks until none is left; reads each and puts it into the accumulator, joined with each neighbour that it is
+/// handed. The gate is asked after each step.
 ///
-/// It waits for the book's lock. A stopped worker hands back its seat, its share and what is in its hand. That is the
-/// piece that it drew last, unread, or runs that have all of it, or nothing. The numbers that its seat got before stay.
+/// It waits for the accumulator's lock. A stopped worker hands back its worker handle, its share and what is in its
+/// hand. That is the chunk that it drew last, unread, or runs that have all of it, or nothing. The numbers that its
+/// worker handle got before stay.
 pub fn work<'a, S: Summary, P: Ledger, T: Ledger, G: Gate, R: Wait>(
     rt: &R,
     alloc: Global,

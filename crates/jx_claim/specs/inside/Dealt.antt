@@ -1,4 +1,4 @@
--- The rule of the claim word, which holds the number that the next draw finds.
+-- The rule of the claim word, which holds the number that the next worker finds.
 use Rattle.std.specs.Prelude.{◌≡◌, ◌⊎◌, ℕ, ◌+◌, ◌-◌, ◌<◌, ◌≤◌, List, [], ◌∷◌, ◌++◌, All, length, slice_index, sum_by}
 use mathlib.Core.Option.{some}
 use lib.ListN.{get_elem?}
@@ -8,7 +8,7 @@ use Rattle.jx_claim.specs.declared.rule.Terms.{Terms}
 use Rattle.jx_claim.specs.Claimed.{times, once_below}
 use Rattle.jx_claim.specs.Undrawn.{undrawn, Draws}
 
--- a view from its parts: for how many seats it stands, the numbers got, and how often `None` was got
+-- a view from its parts: for how many worker handles it stands, the numbers got, and how often `None` was got
 abbrev pub view : ℕ → List ℕ → ℕ → View
 view seats got nones = record { seats = seats; got = got; nones = nones }
 
@@ -16,7 +16,8 @@ view seats got nones = record { seats = seats; got = got; nones = nones }
 abbrev pub both : View → View → View
 both v w = view (v.seats + w.seats) (v.got ++ w.got) (v.nones + w.nones)
 
--- a view that stands for no seat got nothing, and each seat that a view stands for got `None` once at most
+-- a view that stands for no worker handle got nothing, and each worker handle that a view stands for got `None` once at
+-- most
 pub record Fits (v : View) : Type 0 where
   pub nones : v.nones ≤ v.seats
   pub idle : v.seats ≡ 0 → v.got ≡ []
@@ -28,21 +29,22 @@ pub record Dealt (k : Terms) (s : State (Unit {0}) View) : Type 0 where
   pub small : k.pieces < 4294967296
   -- so the word never wraps
   pub within : slice_index s.words 0 ≤ k.pieces + 64
-  -- the views stand for all seats
+  -- the views stand for all worker handles
   pub seats : sum_by (λ v. v.seats) s.views ≡ k.workers
-  -- each piece was got once or is undrawn, not both, and nothing else was got
+  -- each chunk was got once or is untaken, not both, and nothing else was got
   pub got : (x : ℕ) → sum_by (λ v. times x v.got) s.views + times x (undrawn (slice_index s.words 0) k.pieces) ≡ once_below x k.pieces
-  -- each draw past the last piece got `None`
+  -- each step past the last chunk got `None`
   pub nones : sum_by (λ v. v.nones) s.views ≡ slice_index s.words 0 - k.pieces
   pub fits : (id : ℕ) (v : View) → get_elem? s.views id ≡ some v → Fits v
 
--- what a draw that finds this word makes of the view of its seat: the word is an undrawn number, which the seat gets and
--- which is undrawn no more; or nothing is undrawn, and it gets `None`
+-- the view of a worker handle after a step that finds this word: the word is an untaken number, which the worker handle
+-- gets and which is untaken no more; or nothing is untaken, and it gets `None`
 abbrev pub IsDraw : ℕ → ℕ → View → View → Type 0
 IsDraw pieces word v w =
     (Draws (undrawn word pieces) word (undrawn (word + 1) pieces) × (w ≡ view v.seats (v.got ++ word ∷ []) v.nones))
     ⊎ ((undrawn word pieces ≡ []) × (w ≡ view v.seats v.got (v.nones + 1)))
 
--- a draw changes the view of the seat that draws, and no other; all that the seat got before is below the word
+-- a step changes the view of the worker handle that takes, and no other; all that the worker handle got before is below
+-- the word
 abbrev pub DrawsFrom : ℕ → Step (Unit {0}) → Me (Unit {0}) View → ℕ → Me (Unit {0}) View → Type 0
 DrawsFrom pieces st m word m' = All (λ n. n < word) m.0.got × IsDraw pieces word m.0 m'.0 × (m'.1 ≡ m.1)

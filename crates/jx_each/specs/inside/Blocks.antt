@@ -1,4 +1,4 @@
--- Words that tell of a block of 64 bytes where strings and escapes stand: bit k stands for byte k.
+-- Words that say where a block of 64 bytes has strings and escapes: bit k stands for byte k.
 use Rattle.std.specs.Prelude.{◌≡◌, ◌-◌, ◌<◌, ◌≤◌, ℕ, zero, suc, List, get_or, Bool, true, false}
 use Rattle.jx_compact.specs.declared.place.Place.{Place}
 use Rattle.jx_compact.specs.declared.place.Place.TheVariants.{Between, Inside, Escaped}
@@ -11,7 +11,7 @@ abbrev pub placed : Bool → Place
 placed true = Inside
 placed false = Between
 
--- what holds of byte k, where bit k of a word says it of the byte behind it
+-- what holds of byte k, where bit k of a word says it of the byte after it
 abbrev pub in_at : Bool → ℕ → ℕ → Bool
 in_at first word zero = first
 in_at first word (suc k) = bit word k
@@ -30,7 +30,7 @@ pub record IsMarked (set : ℕ → Bool) (block : List ℕ) (inside : Bool) (wor
   pub still : (k : ℕ) → k < 64 → bit word k ≡ false → place_at inside words k ≡ Between → set (get_or block k 0) ≡ false
   pub outside : (k : ℕ) → k < 64 → bit word k ≡ true → (place_at inside words k ≡ Between) × (place_at inside words (suc k) ≡ Between) × (set (get_or block k 0) ≡ true)
 
--- the first byte is not escaped, nor is the one behind those that are looked at
+-- the first byte is not escaped, nor is the one after those that are looked at
 pub record IsTold (block : List ℕ) (inside : Bool) (words : Words) : Type 0 where
   pub goes : (k : ℕ) → k < 64 → next (place_at inside words k) (get_or block k 0) ≡ place_at inside words (suc k)
   pub brackets : IsMarked is_bracket block inside words words.brackets

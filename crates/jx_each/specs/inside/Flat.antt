@@ -1,4 +1,4 @@
--- Blocks of an array in which no string, no bracket and no blank stands.
+-- Blocks of an array in which no string, no bracket and no white space stands.
 use Rattle.std.specs.Prelude.{◌≡◌, ◌-◌, ◌<◌, ◌≤◌, ◌==◌, if◌then◌else◌, ℕ, suc, List, get_or, Bool, true, false}
 use Rattle.jx_compact.specs.declared.place.Place.TheVariants.{Between}
 use Rattle.jx_lex.specs.inside.Bits.{bit}
@@ -8,11 +8,11 @@ use Rattle.jx_each.specs.inside.Blocks.{place_at}
 abbrev pub is_comma : ℕ → Bool
 is_comma byte = byte == 0x2c
 
--- a comma behind an element becomes a line feed
+-- a comma after an element becomes a line feed
 abbrev pub fed : ℕ → ℕ
 fed byte = if byte == 0x2c then 0x0a else byte
 
--- its commas alone do anything, each of them stands behind an element, and the last one before a place
+-- its commas alone do anything, each of them follows an element, and the last one before a place
 pub record IsFlat (block : List ℕ) (inside : Bool) (words : Words) (begun : Bool) (end : ℕ) : Type 0 where
   pub outside : (k : ℕ) → place_at inside words k ≡ Between
   pub whole : words.len ≡ 64

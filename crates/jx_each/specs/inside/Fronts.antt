@@ -1,4 +1,4 @@
--- How many bytes of an input stand before its first fault.
+-- How many bytes of an input are before its first fault.
 use Rattle.std.specs.Prelude.{◌≤◌, ℕ, ◌-◌, List, [], take, if◌then◌else◌, nat_lt, Option, Some, None, Bool, true, false}
 use Rattle.jx_run.specs.declared.texts.verdict.Verdict.{Verdict}
 use Rattle.jx_run.specs.declared.texts.verdict.Verdict.TheVariants.{Accepted, Refused}
@@ -17,7 +17,7 @@ sound (Refused (RepeatedName at)) count = count
 sound (Refused (Stopped at)) count = at
 sound (Refused (TooDeep at)) count = at
 
--- of a slice behind a count of bytes, those that are sound too
+-- of a slice after a count of bytes, those that are sound too
 abbrev pub sound_part : List ℕ → ℕ → ℕ → ℕ → List ℕ
 sound_part slice before count after = if nat_lt before count then [] else take (after - count) slice
 

@@ -1,4 +1,4 @@
--- The tokens of a pointer as they are held.
+-- The tokens of a pointer as they are kept.
 use Rattle.std.specs.Prelude.{ℕ, List, map}
 use Rattle.jx_each.specs.declared.stand.Stage.{Stage}
 use Rattle.jx_each.specs.declared.stand.Stage.TheVariants.{Ahead, Elements, Members, Array, Object, Name, Pair, Over}

@@ -1,4 +1,4 @@
--- Sets of bytes of which runs are passed over at once.
+-- Sets of bytes of which runs are skipped at once.
 use Rattle.std.specs.Prelude.{◌≡◌, ◌==◌, ◌&&◌, ◌||◌, ℕ, Bool, not, nat_le, true, List, [], ◌∷◌}
 use Rattle.jx_compact.specs.Compact.{is_no_blank}
 

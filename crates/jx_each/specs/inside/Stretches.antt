@@ -12,7 +12,7 @@ use Rattle.jx_each.specs.Machine.{Aim, Made, run}
 abbrev pub spot : Place → ℕ → Stage → Bool → List ℕ → List ℕ → Made
 spot place height stage takes lines part = record { stand = record { place = place; height = height; stage = stage; takes = takes }; lines = lines; part = part }
 
--- behind an element of the container, an array
+-- after an element of the container, an array
 abbrev pub spot_in_array : Bool → LineStand
 spot_in_array takes = record { place = Between; height = 1; stage = Array; takes = takes }
 
@@ -21,12 +21,12 @@ pub record IsStretch (place : Place) (height : ℕ) (w : List ℕ) (to : Place) 
   pub runs : (aim : Aim) (stage : Stage) (takes : Bool) (lines part : List ℕ)
       → run aim (spot place height stage takes lines part) w ≡ spot to high stage takes lines (part ++ (if takes then w else []))
 
--- none is kept, and the byte behind them stands where the first one stood
+-- none is kept, and the byte after them stands where the first one stood
 pub record IsPassed (place : Place) (w : List ℕ) : Type 0 where
   pub runs : (aim : Aim) (height : ℕ) (stage : Stage) (takes : Bool) (lines part : List ℕ)
       → run aim (spot place height stage takes lines part) w ≡ spot place height stage takes lines part
 
--- what stays of them is copied behind what was kept, and they lead from one place and height to another
+-- what stays of them is copied after what was kept, and they lead from one place and height to another
 pub record IsCopied (takes : Bool) (place : Place) (height : ℕ) (w part : List ℕ) (to : Place) (high : ℕ) (longer : List ℕ) : Type 0 where
   pub runs : (aim : Aim) (stage : Stage) (lines : List ℕ) → run aim (spot place height stage takes lines part) w ≡ spot to high stage takes lines longer
 
@@ -40,10 +40,10 @@ pub record IsWalked (takes : Bool) (xs : List ℕ) (old : Walk) (part : List ℕ
       → run aim (spot old.place old.height stage takes lines (part ++ waiting takes xs old)) (slice_range xs old.end new.end)
       ≡ spot new.place new.height stage takes lines (longer ++ waiting takes xs new)
 
--- in the container, an array: the lines end where the element begins that is open, and what is kept of it stands behind them
+-- in the container, an array: the lines end where the element begins that is open, and what is kept of it follows them
 abbrev pub opened : Place → Nest → List ℕ → Made
 opened place nest out = spot place nest.height Array true (take nest.begin out) (drop nest.begin out)
 
--- bytes lead from what was made before them to what is made behind them
+-- bytes lead from what was made before them to what is made after them
 pub record IsLed (place : Place) (nest : Nest) (out w : List ℕ) (to : Place) (next : Nest) (longer : List ℕ) : Type 0 where
   pub runs : (aim : Aim) → run aim (opened place nest out) w ≡ opened to next longer

@@ -1,4 +1,4 @@
--- The rows of a text, made in one pass over the marks and the ends of tokens of its reading.
+-- The rows of a text, made in one pass through the token starts and ends of its reading.
 use Rattle.std.specs.Prelude.{ℕ, zero, suc, ◌+◌, List, [], ◌∷◌, ◌++◌, length, drop, slice_set, Option, None, Some, Bool, true, false, cond}
 use Rattle.jx_lex.specs.declared.kind.Kind.{Kind}
 use Rattle.jx_lex.specs.declared.kind.Kind.TheVariants as kind
@@ -11,7 +11,7 @@ use Rattle.jx_run.specs.Tree.{span}
 use Rattle.jx_index.specs.declared.row.Row.{Row}
 use Rattle.jx_index.specs.declared.builder.Opened.{Opened}
 
--- the rows so far, for each the number of the row behind all that stands in it, the open containers, innermost first,
+-- the rows so far, for each the number of the row after all that stands in it, the open containers, innermost first,
 -- and a name whose value is still to come
 pub record Building : Type 0 where
   pub rows : List Row
@@ -47,7 +47,7 @@ abbrev pub add_leaf : Kind → Span → Building → Building
 add_leaf kind span b =
     record { rows = b.rows ++ (next_row kind span b ∷ []); after = one_after b; opened = counted b.opened; name = None }
 
--- a container begins; its end and the number behind it are set later
+-- a container begins; its end and the number after it are set later
 abbrev pub begin_container : Kind → Bool → ℕ → Building → Building
 begin_container kind is_object at b =
     record {
@@ -82,7 +82,7 @@ is_name_next _ _ = false
 abbrev pub add_string : Span → Building → Building
 add_string span b = cond (is_name_next b.opened b.name) (record b { name = Some span }) (add_leaf kind.String span b)
 
--- a mark at an offset, and the end that belongs to it where it begins a token
+-- a token start at an offset, and its end where it has one
 abbrev pub on_mark : MarkKind → ℕ → ℕ → Building → Building
 on_mark mark.OpenArray at end b = begin_container kind.Array false at b
 on_mark mark.OpenObject at end b = begin_container kind.Object true at b
@@ -96,7 +96,7 @@ on_mark mark.True at end b = add_leaf kind.True (span at end) b
 on_mark mark.False at end b = add_leaf kind.False (span at end) b
 on_mark mark.Null at end b = add_leaf kind.Null (span at end) b
 
--- a mark of this kind begins a token, to which an end belongs
+-- a token of this kind has an end of its own
 abbrev pub is_token : MarkKind → Bool
 is_token = has_end
 

@@ -1,4 +1,4 @@
--- What a pointer's tokens lead to, noted in one pass over the marks and the ends of tokens of a text's reading.
+-- The value to which a pointer's tokens lead, noted in one pass through the token starts and ends of a text.
 use Rattle.std.specs.Prelude.{ℕ, zero, suc, ◌==◌, ◌&&◌, List, [], ◌∷◌, Option, None, Some, Bool, true, false, cond, slice_get, replicate, Result, Ok, Err}
 use Rattle.jx_lex.specs.declared.kind.Kind.{Kind}
 use Rattle.jx_lex.specs.declared.kind.Kind.TheVariants as kind
@@ -33,7 +33,7 @@ abbrev pub names_member : List ℕ → Option (List ℕ) → Option Span → Boo
 names_member text None name = false
 names_member text (Some token) name = is_name text token name
 
--- the token behind so many that have led on
+-- the token after so many that have led on
 abbrev pub is_element : List (List ℕ) → ℕ → ℕ → Bool
 is_element tokens level place = names_place (slice_get tokens level) place
 
@@ -68,7 +68,7 @@ shut end level all = change (met_ended end) level all
 
 -- ---- the state
 
--- what was met behind so many tokens; the open containers to which tokens lead, innermost first; how many are open below
+-- what was met after so many tokens; the open containers to which tokens lead, innermost first; how many are open below
 -- them to which none leads; and of a name whose value is still to come, where that leads
 pub record Finding : Type 0 where
   pub met : List Met
@@ -120,7 +120,7 @@ abbrev pub string_at : Option ℕ → List ℕ → List (List ℕ) → Span → 
 string_at None text tokens span f = leaf_at (target tokens f) kind.String span f
 string_at (Some level) text tokens span f = record f { name = Some (one_deeper (is_member text tokens level (Some span)) level) }
 
--- a mark at an offset where nothing is skipped, and the end that belongs to it where it begins a token
+-- a token start at an offset where nothing is skipped, and its end where it has one
 abbrev pub on_path : List ℕ → List (List ℕ) → MarkKind → ℕ → ℕ → Finding → Finding
 on_path text tokens mark.OpenArray at end f = begin_at (target tokens f) kind.Array false at f
 on_path text tokens mark.OpenObject at end f = begin_at (target tokens f) kind.Object true at f
@@ -134,7 +134,7 @@ on_path text tokens mark.True at end f = leaf_at (target tokens f) kind.True (sp
 on_path text tokens mark.False at end f = leaf_at (target tokens f) kind.False (span at end) f
 on_path text tokens mark.Null at end f = leaf_at (target tokens f) kind.Null (span at end) f
 
--- how many containers are skipped behind a mark
+-- how many containers are skipped after a token start
 abbrev pub skip_over : MarkKind → ℕ → ℕ
 skip_over mark.OpenArray skipped = suc (suc skipped)
 skip_over mark.OpenObject skipped = suc (suc skipped)
@@ -168,7 +168,7 @@ abbrev pub met_in : Option Met → Met
 met_in None = met.Again
 met_in (Some m) = m
 
--- what was met behind so many tokens
+-- what was met after so many tokens
 abbrev pub met_at : List Met → ℕ → Met
 met_at all level = met_in (slice_get all level)
 
@@ -189,7 +189,7 @@ read_met met.Never kind token level on = Err (missing kind token level)
 read_met (met.Once next) kind token level on = on next
 read_met met.Again kind token level on = Err (NameRepeated level)
 
--- from what was met once behind so many tokens, by the others
+-- from what was met once after so many tokens, by the others
 abbrev pub read_from : List Met → List (List ℕ) → ℕ → Found → Result Found FindFault
 read_from all [] level here = Ok here
 read_from all (token ∷ tokens) level here = read_met (met_at all (suc level)) here.kind token level (λ next. read_from all tokens (suc level) next)

@@ -1,4 +1,4 @@
--- What a finder holds.
+-- The state of a finder.
 use Rattle.std.specs.Prelude.{◌<◌, ◌-◌, ◌^◌, ℕ, List, [], ◌∷◌, map, reverse}
 use Rattle.jx_index.specs.declared.finder.Cursor.{Cursor}
 use Rattle.jx_index.specs.declared.finder.State.{State}

@@ -54,7 +54,7 @@ pub record IsPartly (edges : List Edge) (parts : List Part) (pointer : List ℕ)
 abbrev pub IsCovered : List Edge → List Part → List ℕ → Type 0
 IsCovered edges parts pointer = IsSure edges pointer ⊎ IsPartly edges parts pointer
 
--- a part's edge stands behind all of them
+-- a part's edge is after all of them
 pub record IsNext (edges : List Edge) (p : Part) : Type 0 where
   pub known : p.edge.parent ≤ length edges
   pub placed : p.edge.place ≡ place_of (edge_units p.edge)

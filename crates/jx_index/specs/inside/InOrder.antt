@@ -1,4 +1,4 @@
--- What is built of the tokens that a sink was told.
+-- The structure that is built of the tokens that a sink was given.
 use Rattle.std.specs.Prelude.{◌≡◌, ◌<◌, ◌-◌, ◌^◌, ℕ, List, ◌∷◌, ◌++◌, Option, None, Some, true}
 use Rattle.jx_lex.specs.declared.alphabet.mark.Mark.{Mark}
 use Rattle.jx_index.specs.inside.Building.{Building, nothing_built, is_token, make}
@@ -13,11 +13,11 @@ behind (Some m) more = m ∷ more
 abbrev pub IsToken : Option Mark → Type 0
 IsToken begun = (m : Mark) → begun ≡ Some m → is_token m.kind ≡ true
 
--- these marks and ends, and whatever follows, make what follows makes of this building
+-- these token starts and ends, and whatever follows, make what follows makes of this building
 abbrev pub Comes : List Mark → List ℕ → Building → Option Mark → Type 0
 Comes marks ends b begun = (last : ℕ) (more : List Mark) (others : List ℕ) → make last (marks ++ more) (ends ++ others) nothing_built ≡ make last (behind begun more) others b
 
--- what holds the building to which these marks and ends come
+-- what holds the building to which these token starts and ends come
 pub record SeenAs (Holds : Building → Type 0) (marks : List Mark) (ends : List ℕ) (begun : Option Mark) : Type 0 where
   pub building : Building
   pub fits : Fits building

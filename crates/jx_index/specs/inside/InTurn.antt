@@ -1,4 +1,4 @@
--- A token that has begun, beside a reader that tells tokens.
+-- A token that has begun, beside a reader that gives tokens to a sink.
 use Rattle.std.specs.Prelude.{◌≡◌, false, Option, Some, is_some}
 use Rattle.std.specs.Coded.{Coded-set, Unit-prop, coded_bool, Π_prop}
 use Rattle.jx_lex.specs.declared.alphabet.mark.Mark.{Mark}
@@ -7,7 +7,7 @@ use Rattle.jx_run.specs.Reader.{Outcome, in_front, reads}
 use Rattle.jx_run.specs.Reading.{went, stopped, too_deep}
 use Rattle.jx_run.specs.Telling.{AwaitsBehind}
 
--- it is held just where the reader stands inside one; behind a fault nothing more is told
+-- it is kept just where the reader is inside one; after a fault nothing more is given
 abbrev pub IsInTurn : Option Outcome → Option Mark → Type 0
 IsInTurn outcome begun = (came : Outcome) → outcome ≡ Some came → AwaitsBehind (λ inside. is_some begun ≡ inside) came
 

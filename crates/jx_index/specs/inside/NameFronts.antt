@@ -7,7 +7,7 @@ use Rattle.jx_index.specs.declared.member_order.Fronted.{Fronted}
 use Rattle.jx_index.specs.declared.row.Row.{Row}
 use Rattle.jx_index.specs.Names.{name_units}
 
--- the first unit as far as a byte holds it, and what counts behind it: nothing, where the byte does not hold it
+-- the first unit as far as a byte holds it, and what counts after it: nothing, where the byte does not hold it
 abbrev pub digit : List ℕ → ℕ
 digit [] = 0
 digit (unit ∷ units) = if nat_lt unit 255 then unit else 255

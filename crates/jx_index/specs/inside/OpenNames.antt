@@ -13,7 +13,7 @@ use Rattle.jx_index.specs.inside.Building.{Building}
 use Rattle.jx_index.specs.inside.NameLists.{IsRepeatedName}
 use Rattle.jx_index.specs.inside.Ties.{earlier_of}
 
--- ---- what is held
+-- ---- what is kept
 
 -- open containers, innermost first, the names of all of them, a name whose value is still to come, and the first name that
 -- an ended object repeats
@@ -38,7 +38,7 @@ with_container is_object h =
       name = None;
     }
 
--- what is repeated in a container that ends, whose names are those behind so many
+-- what is repeated in a container that ends, whose names are those after so many
 pub record EndsIn (old : Held) (top : Holder) (outer : List Holder) (new : Held) : Type 0 where
   pub repeated : Option ℕ
   pub in_object : top.is_object ≡ true → IsLeast (IsRepeatedName old.text (drop top.before old.names)) repeated
@@ -64,7 +64,7 @@ abbrev pub is_object : Kind → Bool
 is_object kind.Object = true
 is_object _ = false
 
--- the names of each open container are those of the rows below it, and behind those of the containers around it
+-- the names of each open container are those of the rows below it, and after those of the containers around it
 pub data Holds (below : ℕ → List Span) (kinds : ℕ → Kind) : ℕ → List Holder → List Opened → List Span → Type 0 where
   none_open : {n : ℕ} {names : List Span} → Holds below kinds n [] [] names
   one_open : {n : ℕ} {h : Holder} {holders : List Holder} {o : Opened} {outer : List Opened} {names before : List Span}
@@ -82,7 +82,7 @@ pub record IsEndedRepeat (text : List ℕ) (below : ℕ → List Span) (kinds : 
   pub ended : IsNotOpen object opened
   pub repeats : IsRepeatedName text (below object) at
 
--- what is held of a text from which this is built
+-- the names that are kept of a text from which this is built
 pub record IsHeldOf (text : List ℕ) (b : Building) (h : Held) : Type 0 where
   pub text_is : h.text ≡ text
   pub name_is : h.name ≡ b.name

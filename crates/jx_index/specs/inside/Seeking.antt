@@ -1,4 +1,4 @@
--- What is held for the pointers of a trie of the tokens of one reading.
+-- The state for the pointers of a trie, of the tokens of one reading.
 use Rattle.std.specs.Prelude.{◌≡◌, ℕ, List, reverse, map, Result}
 use Rattle.jx_index.specs.declared.find_fault.FindFault.{FindFault}
 use Rattle.jx_index.specs.declared.finder.Found.{Found}

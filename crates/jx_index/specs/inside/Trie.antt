@@ -42,7 +42,7 @@ edge_key e = e.parent ∷ e.place ∷ edge_units e
 abbrev pub is_before : Edge → Edge → Bool
 is_before a b = is_lt (slice_cmp nat_cmp (edge_key a) (edge_key b))
 
--- an edge stands behind all before it, and behind that which leads to its parent
+-- an edge is after all before it, and after the one that leads to its parent
 pub record IsEdgeAt (edges : List Edge) (i : ℕ) : Type 0 where
   pub place_is : (e : Edge) → slice_get edges i ≡ Some e → e.place ≡ place_of (edge_units e)
   pub parent_earlier : (e : Edge) → slice_get edges i ≡ Some e → e.parent ≤ i
@@ -83,7 +83,7 @@ pub record IsFirstFrom (edges : List Edge) (key : List ℕ) (at : ℕ) : Type 0 
 abbrev pub sought_key : Key → List ℕ
 sought_key k = k.node ∷ k.place ∷ chars_units k.spelling 0 k.bytes.now
 
--- there is an edge, and it stands before a key
+-- there is an edge, and it is before a key
 abbrev pub stands_before : Option Edge → List ℕ → Bool
 stands_before None key = false
 stands_before (Some e) key = is_lt (slice_cmp nat_cmp (edge_key e) key)
@@ -109,7 +109,7 @@ pub record HasWay (edges : List Edge) (pointer : List ℕ) : Type 0 where
   pub path : List ℕ
   pub way : IsWay edges 0 (tokens pointer) path
 
--- ---- one mark, noted for all pointers
+-- ---- one token start, noted for all pointers
 
 abbrev pub first_open : List Cursor → Option Cursor
 first_open [] = None
@@ -147,7 +147,7 @@ sought_in (suc skipped) text edges kind at end f = record f { skipped = skip_ove
 abbrev pub sought : List ℕ → List Edge → MarkKind → ℕ → ℕ → Finding → Finding
 sought text edges kind at end f = sought_in f.skipped text edges kind at end f
 
--- whether a mark that comes next begins the name of a member
+-- whether a token start that comes next begins the name of a member
 abbrev pub is_name_next : MarkKind → Finding → Bool
 is_name_next mark.String f = (f.skipped == 0) && is_some (naming f.opened f.name)
 is_name_next _ f = false

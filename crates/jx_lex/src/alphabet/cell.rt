@@ -1,8 +1,8 @@
-// What the lexical machine does with a byte, as its table keeps it.
+// The cells of the lexical machine's table: what the machine does with a byte.
 use crate::alphabet::mark::MarkKind;
 use crate::alphabet::state::LexState;
 
-/// What one byte does in a state. The state that is named is the next one.
+/// The effect of one byte in a state. The state that is named is the next one.
 #[derive(Clone, Copy, Debug)]
 pub(crate) enum Cell {
     /// The machine goes on, inside a token or between tokens.

@@ -95,7 +95,7 @@ const COLON: Cell = Cell::Begin(LexState::Gap, MarkKind::Colon);
 
 const COMMA: Cell = Cell::Begin(LexState::Gap, MarkKind::Comma);
 
-// A number ends before the byte: a blank, or one with which the next token begins.
+// A number ends before the byte: white space, or one with which the next token begins.
 const END: Cell = Cell::End(LexState::Gap);
 
 const END_STR: Cell = Cell::EndThenBegin(LexState::Str, MarkKind::String);

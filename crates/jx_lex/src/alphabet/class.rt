@@ -5,15 +5,15 @@ ghost use Rattle.jx_lex.specs.Classes.{class_at, is_in};
 
 use crate::alphabet::classes::CLASSES;
 
-/// What a byte is to the lexical machine (RFC 8259, sections 2, 3, 6 and 7, and RFC 3629, section 4). Every byte has
-/// exactly one class. The bytes below are hexadecimal.
+/// The class of a byte for the lexical machine (RFC 8259, sections 2, 3, 6 and 7, and RFC 3629, section 4). Every byte
+/// has exactly one class. The bytes below are hexadecimal.
 #[derive(Clone, Copy, Debug, PartialEq, Eq)]
 pub enum Class {
     /// 00 to 08, 0B, 0C and 0E to 1F: control characters, which stand nowhere.
     Ctl,
     /// 09, 0A and 0D: tab, line feed and carriage return.
     Blank,
-    /// 20, a blank outside strings.
+    /// 20, white space outside strings.
     Space,
     /// 22, `"`.
     Quote,

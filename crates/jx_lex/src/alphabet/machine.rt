@@ -8,7 +8,7 @@ use crate::alphabet::cells::CELLS;
 use crate::alphabet::class::class_of;
 use crate::alphabet::state::{LexState, Step, TokenEnd};
 
-/// What the byte does in the state, for loops that read many.
+/// The effect of the byte in the state, for loops that read many.
 #[inline(always)]
 pub(crate) fn cell_at(state: LexState, byte: u8) -> Cell
     ensures moves { step_of result ≡ move state byte }
@@ -23,7 +23,7 @@ pub fn step(state: LexState, byte: u8) -> Step
     step_of(cell_at(state, byte))
 }
 
-/// What a cell says of a byte: which token ends and which begins with it, and the state behind it.
+/// The step of a cell: which token ends and which begins with the byte, and the state after it.
 fn step_of(cell: Cell) -> Step
     ensures { result ≡ step_of cell }
 {

@@ -134,12 +134,12 @@ pub enum TokenEnd {
     After,
 }
 
-/// What reading one byte does.
+/// The effect of reading one byte.
 #[derive(Clone, Copy, Debug, PartialEq, Eq)]
 pub struct Step {
     /// Where a token ends, if one does. It stands also where the byte is a fault.
     pub end: Option<TokenEnd>,
-    /// The mark of the byte: a structural byte, or the first one of a scalar.
+    /// The kind of the token that begins with the byte: a structural byte, or a scalar.
     pub begin: Option<MarkKind>,
     /// The state after the byte, or none where the byte is a fault.
     pub next: Option<LexState>,

@@ -1,14 +1,14 @@
-// Stretches of a text that were tested for well-formed UTF-8 before they are read.
+// Parts of a text that are tested for well-formed UTF-8 before they are read.
 ghost use Rattle.std.specs.Prelude.{◌≡◌, ◌≤◌, ◌&&◌, length, nat_le, nat_lt, ℕ, List};
 ghost use Rattle.jx_lex.specs.Ahead.{IsSound};
 
-// How many bytes are read one character after another before a stretch is tested.
+// How many bytes are read one character after another before a part is tested.
 pub(crate) const LEAST: usize = 32;
 
-// The length of the longest stretch, but for up to three bytes.
+// The length of the longest part that is tested at once, but for up to three bytes.
 const MOST: usize = 4096;
 
-/// A stretch of a text that is well-formed UTF-8 (RFC 3629, section 4): a reader of strings need not look at its
+/// A part of a text that is well-formed UTF-8 (RFC 3629, section 4): a reader of strings need not look at its
 /// characters one by one.
 ///
 /// It is carried along from token to token, so that each field fills a word: a smaller one would be copied with the bytes
@@ -17,15 +17,15 @@ const MOST: usize = 4096;
 pub struct Ahead {
     pub(crate) from: usize,
     pub(crate) to: usize,
-    /// The end of what was tested. Where that isn't well-formed, the stretch is empty.
+    /// The end of the tested bytes. Where they are not well-formed, the part is empty.
     tested: usize,
-    /// How many bytes were read one character after another, or the length of this stretch. The next one is four times as
-    /// long, so that a short string costs no long stretch.
+    /// How many bytes were read one character after another, or the length of this part. The next part is four times as
+    /// long, so that a short string does not pay for a long part.
     pub(crate) next: usize,
 }
 
 impl Ahead {
-    /// No stretch yet.
+    /// No tested part yet.
     #[inline(always)]
     pub fn nothing() -> Ahead
         ensures sound { (text : List ℕ) → IsSound text result }
@@ -38,8 +38,8 @@ impl Ahead {
         }
     }
 
-    /// No stretch yet, in bytes that begin inside a string. What stood before them is not known. They are mostly a part
-    /// of a long string, so the first stretch is as long as one may be.
+    /// No tested part yet, in bytes that begin inside a string. The bytes before them are not known. They are mostly
+    /// inside a long string, so the first part is as long as one may be.
     #[inline(always)]
     pub(crate) fn inside_string() -> Ahead
         ensures sound { (text : List ℕ) → IsSound text result }
@@ -52,7 +52,7 @@ impl Ahead {
         }
     }
 
-    /// The same stretch, after so many bytes that were read one character after another.
+    /// The same part, after so many bytes that were read one character after another.
     #[inline(always)]
     pub(crate) fn past(self, length: usize) -> Ahead
         ensures sound { (text : List ℕ) → IsSound text self → IsSound text result }
@@ -63,7 +63,7 @@ impl Ahead {
         }
     }
 
-    /// The stretch that begins with this byte.
+    /// The tested part that begins with this byte.
     #[inline(never)]
     pub(crate) fn after(self, text: &[u8], from: usize, to: usize) -> Ahead
         requires { (from ≤ to) × (to ≤ length text.now) }
@@ -105,7 +105,7 @@ impl Ahead {
         self.from <= at && at < self.tested && self.tested <= to
     }
 
-    /// This stretch, or a new one that begins at this offset, where the bytes from there on are not tested yet and testing
+    /// This part, or a new one that begins at this offset, where the bytes from there on are not tested yet and testing
     /// them pays.
     #[inline(always)]
     pub(crate) fn at(self, text: &[u8], at: usize, to: usize) -> Ahead
@@ -120,7 +120,7 @@ impl Ahead {
         }
     }
 
-    /// Whether the stretch has the byte at this offset, and ends no later than there.
+    /// Whether the part has the byte at this offset, and ends no later than there.
     #[inline(always)]
     pub(crate) fn covers(self, at: usize, to: usize) -> bool
         ensures { result ≡ (nat_le self.from at && nat_lt at self.to && nat_le self.to to) }
@@ -129,7 +129,7 @@ impl Ahead {
     }
 }
 
-/// The end of the block of `MOST` bytes that has the byte three places behind this one. A stretch that ended inside a
+/// The end of the block of `MOST` bytes that has the byte three places after this one. A part that ended inside a
 /// character leaves up to three bytes of the block before. Whole blocks are tested faster than bytes across two blocks.
 #[inline(always)]
 fn end_of_block(from: usize) -> usize {

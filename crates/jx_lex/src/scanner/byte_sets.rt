@@ -1,5 +1,5 @@
-// Ends of stretches of bytes over which the lexical machine keeps its state with no event, found 16 bytes at a time, and in
-// long stretches 64.
+// Where bytes end over which the lexical machine keeps its state with no event. They are looked at 16 at a time, and
+// where many follow 64.
 ghost use Rattle.std.specs.Prelude.{◌≡◌, ◌≤◌, ◌<◌, ◌+◌, ℕ, Bool, not, length, slice_index, slice_range, map};
 ghost use Rattle.std.specs.Simd.Lanes.{mask_l};
 ghost use Rattle.std.specs.Slice.Scan.{HoldsNowhere, IsFirstPlace, Marks};
@@ -28,13 +28,13 @@ trait ByteSet {
 /// Ordinary ASCII in a string.
 struct Plain;
 
-/// What a string holds but for quotation marks, backslashes and control characters.
+/// The bytes of a string but for quotation marks, backslashes and control characters.
 struct Unescaped;
 
 /// The digits, 30 to 39.
 struct Digits;
 
-/// The blanks that may stand between tokens (RFC 8259, section 2).
+/// The white space that may stand between tokens (RFC 8259, section 2).
 struct Blanks;
 
 impl ByteSet for Plain {
@@ -139,7 +139,7 @@ pub(crate) fn not_plain(block: u8x64) -> u64
     Plain::others_of_64(block)
 }
 
-/// Bit k says that the byte k places behind `i` is not in the set, for the 16 bytes from `i` on.
+/// Bit k says that the byte k places after `i` is not in the set, for the 16 bytes from `i` on.
 #[inline(always)]
 fn marks<R: ByteSet>(text: &[u8], i: usize) -> u64
     requires { i + 16 ≤ length text.now }
@@ -148,7 +148,7 @@ fn marks<R: ByteSet>(text: &[u8], i: usize) -> u64
     R::others(u8x16::from_slice(&text[i..]))
 }
 
-/// Bit k says that the byte k places behind `i` is not in the set, for the 64 bytes from `i` on.
+/// Bit k says that the byte k places after `i` is not in the set, for the 64 bytes from `i` on.
 #[inline(always)]
 fn marks_of_64<R: ByteSet>(text: &[u8], i: usize) -> u64
     requires { i + 64 ≤ length text.now }
@@ -157,8 +157,8 @@ fn marks_of_64<R: ByteSet>(text: &[u8], i: usize) -> u64
     R::others_of_64(u8x64::from_slice(&text[i..]))
 }
 
-/// The first offset from `from` on whose byte is not in the set, or `to`. Most stretches end in their first 16 bytes. Those
-/// behind `to` are looked at where the text has them, and change nothing.
+/// The first offset from `from` on whose byte is not in the set, or `to`. Most searches end in their first 16 bytes.
+/// Bytes after `to` are looked at where the text has them, and change nothing.
 #[inline(always)]
 fn members_end<R: ByteSet>(text: &[u8], from: usize, to: usize) -> usize
     requires { (from ≤ to) × (to ≤ length text.now) }
@@ -239,7 +239,7 @@ pub fn plain_end(text: &[u8], from: usize, to: usize) -> usize
 }
 
 /// The first offset from `from` on whose byte is a quotation mark, a backslash or a control character, or `to`. What it
-/// passes over is only known to be whole characters where the text is known to be UTF-8.
+/// skips is only known to be whole characters where the text is known to be UTF-8.
 #[inline(always)]
 pub(crate) fn unescaped_end(text: &[u8], from: usize, to: usize) -> usize
     requires { (from ≤ to) × (to ≤ length text.now) }
@@ -262,7 +262,7 @@ pub fn digit_end(text: &[u8], from: usize, to: usize) -> usize
     members_end::<Digits>(text, from, to)
 }
 
-/// The first offset from `from` on whose byte is no blank, or `to`.
+/// The first offset from `from` on whose byte is no white space, or `to`.
 #[inline(always)]
 pub(crate) fn blank_end(text: &[u8], from: usize, to: usize) -> usize
     requires { (from ≤ to) × (to ≤ length text.now) }

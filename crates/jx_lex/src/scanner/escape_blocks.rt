@@ -34,7 +34,7 @@ fn letters_u(block: u8x64) -> u64
     block.simd_eq(u8x64::splat(b'u')).to_bitmask()
 }
 
-/// Which bytes make an escape of two bytes behind a backslash.
+/// Which bytes make an escape of two bytes after a backslash.
 #[inline(always)]
 fn short_escapes(block: u8x64) -> u64
     ensures { result ≡ mask_l (map is_escaped block) }
@@ -59,19 +59,19 @@ fn hex_digits(block: u8x64) -> u64
     (decimal | letter).to_bitmask()
 }
 
-/// Which bytes stand behind an odd number of backslashes: of each run of backslashes the first, the third and so on escape
-/// the byte behind them. The first byte is behind none.
+/// Which bytes follow an odd number of backslashes: of each run of backslashes the first, the third and so on escape
+/// the byte after them. The first byte is after none.
 #[inline(always)]
 fn behind_odd_runs(backslashes: u64) -> u64
     ensures first { bit result 0 ≡ false }
 {
     let behind = backslashes << 1;
     let odd_starts = backslashes & !EVEN & !behind;
-    // The sum runs through each run that begins at an odd place, up to the byte behind it.
+    // The sum runs through each run that begins at an odd place, up to the byte after it.
     (EVEN ^ (odd_starts.wrapping_add(backslashes) << 1)) & behind
 }
 
-/// The four bytes behind each of these.
+/// The four bytes after each of these.
 #[inline(always)]
 fn four_behind(units: u64) -> u64
     ensures { (k j : ℕ) → 1 ≤ j → j ≤ 4 → k + j < 64 → bit units k ≡ true → bit result (k + j) ≡ true }
@@ -106,8 +106,8 @@ fn last_boundary(inside: u64, wrong: u64) -> usize
     boundaries.ilog2() as usize
 }
 
-/// How many of these bytes, from inside a string on, are whole escapes and ordinary ASCII. The block's last byte is none of
-/// them.
+/// How many of these bytes, from inside a string on, are whole escapes and ordinary ASCII. The block's last byte is not
+/// counted.
 #[inline(always)]
 fn escaped_len(block: u8x64) -> usize
     ensures few { result < 64 }

@@ -1,4 +1,4 @@
-// Ends of stretches of whole characters and escapes inside a string.
+// Where whole characters and escapes inside a string end.
 ghost use Rattle.std.specs.Prelude.{◌≡◌, ◌≤◌, ◌<◌, ◌+◌, IsTrue, length, take, slice_range};
 ghost use Rattle.jx_lex.specs.declared.alphabet.state.LexState.TheVariants as state;
 ghost use Rattle.jx_lex.specs.Ahead.{IsSound};
@@ -8,7 +8,7 @@ use crate::scanner::ahead::{Ahead, LEAST};
 use crate::scanner::byte_sets::{plain_end, unescaped_end};
 use crate::scanner::escape_blocks::escaped_blocks_end;
 
-/// Whether the byte is one of those behind the first of a character above 7F: 80 up to BF.
+/// Whether the byte is one of those after the first of a character above 7F: 80 up to BF.
 #[inline(always)]
 fn is_tail(byte: u8) -> bool
     ensures { result ≡ is_tail byte }
@@ -137,8 +137,8 @@ fn escapes_end(text: &[u8], from: usize, to: usize) -> usize
     i
 }
 
-/// Whether a character may begin with this byte, of those above 7F.
-/// It only tells them from tails: C0, C1 and those above F4, with which none begins, pass too.
+/// Whether a character above 7F may begin with this byte. It only excludes tail bytes: C0, C1 and those above F4, with
+/// which no character begins, pass too.
 #[inline(always)]
 pub(crate) fn is_lead(byte: u8) -> bool
     ensures { IsTrue result → 0xc0 ≤ byte }
@@ -146,7 +146,7 @@ pub(crate) fn is_lead(byte: u8) -> bool
     byte >= 0xc0
 }
 
-/// The end of the ordinary ASCII from an offset on. Behind an escape or a character there is often none.
+/// The end of the ordinary ASCII from an offset on. After an escape or a character there is often none.
 #[inline(always)]
 fn ascii_end(text: &[u8], from: usize, to: usize) -> usize
     requires { (from ≤ to) × (to ≤ length text.now) }
@@ -159,8 +159,8 @@ fn ascii_end(text: &[u8], from: usize, to: usize) -> usize
     plain_end(text, from, to)
 }
 
-/// The end of escapes and of the ordinary ASCII between them and behind them. Where fewer than 64 bytes are left, and where
-/// a block has anything else, it reads one escape after another.
+/// The end of escapes and of the ordinary ASCII between them and after them. Where fewer than 64 bytes are left, and
+/// where a block has anything else, it reads one escape after another.
 #[inline(never)]
 fn escaped_end(text: &[u8], from: usize, to: usize) -> usize
     requires { (from ≤ to) × (to ≤ length text.now) }
@@ -197,8 +197,8 @@ fn sequences_end(text: &[u8], from: usize, most: usize, to: usize) -> usize
     i
 }
 
-/// The end of characters from a byte above 7F on, or `from` where none stands whole. Takes all that may stand for
-/// themselves in a stretch known to be UTF-8, else a few.
+/// The end of characters from a byte above 7F on, or `from` where no whole one follows. Takes all characters that need
+/// no escape in bytes known to be UTF-8, else a few.
 #[inline(always)]
 fn characters_end(text: &[u8], from: usize, to: usize, ahead: Ahead) -> (usize, Ahead)
     requires bounds { (from < to) × (to ≤ length text.now) }
@@ -216,7 +216,7 @@ fn characters_end(text: &[u8], from: usize, to: usize, ahead: Ahead) -> (usize, 
     (end, ahead.past(end - from))
 }
 
-/// The end of a stretch of escapes or of characters above 7F, and of the ordinary ASCII behind it, or `from`.
+/// The end of escapes or of characters above 7F, and of the ordinary ASCII after them, or `from`.
 #[inline(always)]
 fn char_end(text: &[u8], from: usize, to: usize, ahead: Ahead) -> (usize, Ahead)
     requires bounds { (from < to) × (to ≤ length text.now) }
@@ -268,9 +268,8 @@ fn ascii_string_end(text: &[u8], from: usize, to: usize) -> usize
     end
 }
 
-/// The end of a stretch of whole characters and escapes of a string from `from` on, or `to`. It ends at a quotation
-/// mark, a fault, or the first character that isn't whole before `to`. What was learnt of the UTF-8 ahead serves the
-/// strings that follow.
+/// The end of whole characters and escapes of a string from `from` on, or `to`. It is at a quotation mark, a fault, or
+/// the first character that isn't whole before `to`. What was learnt of the UTF-8 ahead serves the strings that follow.
 #[inline(always)]
 pub(crate) fn string_end_ahead(text: &[u8], from: usize, to: usize, ahead: &mut Ahead) -> usize
     requires bounds { (from ≤ to) × (to ≤ length text.now) }

@@ -1,4 +1,4 @@
-// Reading on behind a byte: over the rest of its token, or over blanks.
+// Reading on after a byte: over the rest of its token, or over white space.
 ghost use Rattle.std.specs.Prelude.{◌≡◌, ◌≤◌, ◌<◌, ◌+◌, ◌↔◌, ◌||◌, ◌==◌, IsTrue, slice_range, length};
 ghost use Rattle.jx_lex.specs.declared.alphabet.state.LexState.TheVariants as state;
 ghost use Rattle.jx_lex.specs.Uneventful.{AllKeep, Leads};
@@ -8,8 +8,8 @@ ghost use Rattle.jx_lex.specs.Token.{IsE};
 use crate::alphabet::state::LexState;
 use crate::scanner::byte_sets::{blank_end, digit_end};
 
-/// The end of the blanks that follow. They mostly stand alone, but for those after a line feed.
-/// Where `byte` is no line feed and no space follows, it looks for none and gives `from`.
+/// The end of the white space that follows. It is mostly one byte, but for that after a line feed. Where `byte` is
+/// no line feed and no space follows, it looks for none and gives `from`.
 #[inline(always)]
 pub(crate) fn gap_end(text: &[u8], byte: u8, from: usize, to: usize) -> usize
     requires { (from ≤ to) × (to ≤ length text.now) }
@@ -23,8 +23,7 @@ pub(crate) fn gap_end(text: &[u8], byte: u8, from: usize, to: usize) -> usize
     }
 }
 
-/// Reads the first digit behind a minus sign.
-/// Gives the offset behind it, or `from` where none is read.
+/// Reads the first digit after a minus sign. Gives the offset after it, or `from` where none is read.
 #[inline(always)]
 fn first_digit(text: &[u8], state: &mut LexState, from: usize, to: usize) -> usize
     requires { (from ≤ to) × (to ≤ length text.now) }
@@ -48,8 +47,7 @@ fn first_digit(text: &[u8], state: &mut LexState, from: usize, to: usize) -> usi
     }
 }
 
-/// Reads the digits that follow.
-/// Gives their end, or `from` in a state that is none of `Int`, `Frac` and `Exp`.
+/// Reads the digits that follow. Gives their end, or `from` in a state other than `Int`, `Frac` and `Exp`.
 #[inline(always)]
 pub(crate) fn more_digits(text: &[u8], state: LexState, from: usize, to: usize) -> usize
     requires { (from ≤ to) × (to ≤ length text.now) }
@@ -64,8 +62,8 @@ pub(crate) fn more_digits(text: &[u8], state: LexState, from: usize, to: usize) 
     }
 }
 
-/// Reads a decimal point and a digit behind an integer part.
-/// Gives the offset behind them, or `from` where they are not read.
+/// Reads a decimal point and a digit after an integer part. Gives the offset after them, or `from` where they are not
+/// read.
 #[inline(always)]
 fn point(text: &[u8], state: &mut LexState, from: usize, to: usize) -> usize
     requires { (from ≤ to) × (to ≤ length text.now) }
@@ -88,8 +86,7 @@ fn point(text: &[u8], state: &mut LexState, from: usize, to: usize) -> usize
     }
 }
 
-/// Reads the letter that begins an exponent, behind a digit.
-/// Gives the offset behind it, or `from` where none is read.
+/// Reads the letter that begins an exponent, after a digit. Gives the offset after it, or `from` where none is read.
 #[inline(always)]
 fn letter(text: &[u8], state: &mut LexState, from: usize, to: usize) -> usize
     requires { (from ≤ to) × (to ≤ length text.now) }
@@ -124,8 +121,7 @@ fn is_letter(byte: u8) -> bool
     byte == b'e' || byte == b'E'
 }
 
-/// Reads the sign of an exponent, if it has one.
-/// Gives the offset behind it, or `from` where none is read.
+/// Reads the sign of an exponent, if it has one. Gives the offset after it, or `from` where none is read.
 #[inline(always)]
 fn sign(text: &[u8], state: &mut LexState, from: usize, to: usize) -> usize
     requires { (from ≤ to) × (to ≤ length text.now) }
@@ -149,8 +145,7 @@ fn sign(text: &[u8], state: &mut LexState, from: usize, to: usize) -> usize
     }
 }
 
-/// Reads the first digit of an exponent.
-/// Gives the offset behind it, or `from` where none is read.
+/// Reads the first digit of an exponent. Gives the offset after it, or `from` where none is read.
 #[inline(always)]
 fn exponent_digit(text: &[u8], state: &mut LexState, from: usize, to: usize) -> usize
     requires { (from ≤ to) × (to ≤ length text.now) }
@@ -173,8 +168,7 @@ fn exponent_digit(text: &[u8], state: &mut LexState, from: usize, to: usize) -> 
     }
 }
 
-/// Reads an exponent, if the number has one, as far as it stands there.
-/// Gives the offset behind what is read, or `from`.
+/// Reads an exponent, if the number has one, as far as it stands there. Gives the offset after what is read, or `from`.
 #[inline(always)]
 fn exponent(text: &[u8], state: &mut LexState, from: usize, to: usize) -> usize
     requires { (from ≤ to) × (to ≤ length text.now) }
@@ -249,7 +243,7 @@ pub(crate) fn literal_end(text: &[u8], begun: LexState, from: usize, to: usize) 
     }
 }
 
-/// Whether this is one of the bytes that mostly stand behind a value. No number goes on with any of them.
+/// Whether this is one of the bytes that mostly follow a value. No number goes on with any of them.
 #[inline(always)]
 fn is_delimiter(byte: u8) -> bool
     ensures { result ≡ (byte == 0x2c || byte == 0x5d || byte == 0x7d || byte == 0x0a) }
@@ -257,8 +251,7 @@ fn is_delimiter(byte: u8) -> bool
     byte == b',' || byte == b']' || byte == b'}' || byte == b'\n'
 }
 
-/// Reads the rest of a number. Many numbers have one digit.
-/// Gives the offset behind what is read, or `from`.
+/// Reads the rest of a number. Many numbers have one digit. Gives the offset after what is read, or `from`.
 #[inline(always)]
 pub(crate) fn number_rest(text: &[u8], state: &mut LexState, from: usize, to: usize) -> usize
     requires { (from ≤ to) × (to ≤ length text.now) }

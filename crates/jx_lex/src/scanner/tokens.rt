@@ -1,4 +1,4 @@
-// Marks and ends, each in a vector.
+// Token starts and ends, each in a vector.
 ghost use Rattle.std.specs.Prelude.{◌≡◌, ◌≤◌, ◌++◌, ◌∷◌, [], ℕ, List, length, take, slice_range, OnOk, IfOk};
 ghost use Rattle.jx_lex.specs.declared.alphabet.mark.Mark.{Mark};
 ghost use Rattle.jx_lex.specs.Lex.{lex};
@@ -13,11 +13,11 @@ use crate::scanner::sink::TokenSink;
 use std::alloc::{AllocError, Global};
 use std::marker::Model;
 
-// For each block of so many bytes, room is reserved for a mark to every four bytes and an end to every eight, so that the
-// vectors need not grow. Memory that is never written to costs next to nothing.
+// For each block of so many bytes, room is reserved for a token start to every four bytes and an end to every eight, so
+// that the vectors need not grow. Memory that is never written to costs next to nothing.
 const BLOCK: usize = 64;
 
-/// All marks and ends that it is told of, in order.
+/// All token starts and ends that it is given, in order.
 #[derive(Drop)]
 pub struct Tokens {
     marks: Vec<Mark>,
@@ -33,7 +33,7 @@ impl Model for Tokens {
 }
 
 impl Tokens {
-    /// No mark and no end yet. Nothing is allocated.
+    /// No token start and no end yet. Nothing is allocated.
     pub fn new(alloc: Global) -> Tokens
         ensures { result ≡ record { marks = []; ends = [] } }
     {
@@ -43,14 +43,14 @@ impl Tokens {
         }
     }
 
-    /// These marks and ends.
+    /// These token starts and ends.
     pub fn of(marks: Vec<Mark>, ends: Vec<usize>) -> Tokens
         ensures { result ≡ record { marks = marks.items; ends = ends.items } }
     {
         Tokens { marks, ends }
     }
 
-    /// The marks, in order.
+    /// The token starts, in order.
     #[inline(always)]
     pub fn marks(&self) -> &[Mark]
         ensures { result.now ≡ self.now.marks }
@@ -66,7 +66,8 @@ impl Tokens {
         &self.ends
     }
 
-    /// Reads a stretch of text from this state: adds its marks and ends to those that it has, and gives the exit.
+    /// Reads bytes of a text from this state: adds their token starts and ends to those that it has, and gives the
+    /// exit.
     pub fn read(
         &mut self,
         state: LexState,
@@ -90,8 +91,8 @@ impl Tokens {
     fn reserve(&mut self, marks: usize, ends: usize) -> Result<(), AllocError>
         ensures { OnOk result (self.new ≡ self.old) }
     {
-        // What stands behind the room that is asked for last is mostly free: of a long stretch that is read at once, marks
-        // beyond those that were thought of then need no copy of the others.
+        // The room that is reserved last is mostly free: of many bytes that are read at once, token starts beyond the
+        // estimate need no copy of the others.
         if self.marks.is_empty() {
             self.ends.reserve(ends)?;
             self.marks.reserve(marks)?;
@@ -102,7 +103,7 @@ impl Tokens {
         Ok(())
     }
 
-    /// Keeps only so many of the first marks and ends.
+    /// Keeps only so many of the first token starts and ends.
     pub fn cut_back(&mut self, marks: usize, ends: usize)
         ensures { self.new ≡ record { marks = take marks self.old.marks; ends = take ends self.old.ends } }
     {
@@ -110,7 +111,7 @@ impl Tokens {
         self.ends.truncate(ends);
     }
 
-    /// The marks and the ends.
+    /// The token starts and the ends.
     pub fn into_lists(self) -> (Vec<Mark>, Vec<usize>)
         ensures { (result.0.items ≡ self.marks) × (result.1.items ≡ self.ends) }
     {

@@ -1,4 +1,4 @@
-// Whole tokens and blanks that are passed over at once, from between tokens on.
+// Whole tokens and white space that are skipped at once, from between tokens on.
 ghost use Rattle.std.specs.Prelude.{◌≡◌, ◌≤◌, ◌<◌, ◌+◌, [], ◌∷◌, IfSome, IsTrue, length, slice_index, slice_range};
 ghost use Rattle.jx_lex.specs.declared.alphabet.mark.MarkKind.TheVariants as mark;
 ghost use Rattle.jx_lex.specs.declared.alphabet.state.LexState.TheVariants as state;
@@ -13,7 +13,7 @@ use crate::scanner::byte_sets::{blank_end, plain_end, unescaped_end};
 use crate::scanner::string_chars::{chars_end, is_lead};
 use crate::scanner::token_rest::{literal_end, number_rest};
 
-/// The offset behind the blanks that follow. Mostly there is none, or one space.
+/// The offset after the white space that follows. Mostly there is none, or one space.
 #[inline(always)]
 pub fn pass_blanks(text: &[u8], from: usize, to: usize) -> usize
     requires { (from < to) × (from + 2 ≤ length text.now) × (to ≤ length text.now) }
@@ -29,8 +29,8 @@ pub fn pass_blanks(text: &[u8], from: usize, to: usize) -> usize
     blank_end(text, from, to)
 }
 
-/// The offset behind the string that begins at `from`, or `from` where none is whole before `to`, or where it has a fault.
-/// The bytes before `first` are its opening quotation mark and ordinary ASCII.
+/// The offset after the string that begins at `from`, or `from` where none is whole before `to`, or where it has a
+/// fault. The bytes before `first` are its opening quotation mark and ordinary ASCII.
 #[inline(never)]
 fn pass_long_string(text: &[u8], from: usize, first: usize, to: usize, ahead: &mut Ahead) -> usize
     requires bounds { (from + 1 ≤ first) × (first ≤ to) × (to ≤ length text.now) }
@@ -64,8 +64,8 @@ fn known_end(text: &[u8], from: usize, to: usize, ahead: &Ahead) -> usize
     from
 }
 
-/// The offset behind the string that begins at `from`, or `from` where none is whole before `to`, or where it has a fault.
-/// What was learnt of the UTF-8 ahead serves the strings that follow.
+/// The offset after the string that begins at `from`, or `from` where none is whole before `to`, or where it has a
+/// fault. What was learnt of the UTF-8 ahead serves the strings that follow.
 #[inline(always)]
 pub fn pass_string(text: &[u8], from: usize, to: usize, ahead: &mut Ahead) -> usize
     requires bounds { (from < to) × (to ≤ length text.now) }
@@ -117,8 +117,8 @@ fn number_may_end(state: LexState) -> bool
     }
 }
 
-/// The offset behind the number that begins at `from`, or `from` where none is whole before `to`. What follows says whether
-/// it ends there.
+/// The offset after the number that begins at `from`, or `from` where none is whole before `to`. What follows says
+/// whether it ends there.
 #[inline(always)]
 pub fn pass_number(text: &[u8], from: usize, to: usize) -> usize
     requires { (from < to) × (to ≤ length text.now) }
@@ -133,7 +133,7 @@ pub fn pass_number(text: &[u8], from: usize, to: usize) -> usize
     if number_may_end(state) { end } else { from }
 }
 
-/// The offset behind the literal that begins at `from`, or `from` where none is whole before `to`.
+/// The offset after the literal that begins at `from`, or `from` where none is whole before `to`.
 #[inline(always)]
 pub fn pass_literal(text: &[u8], from: usize, to: usize) -> usize
     requires { (from < to) × (to ≤ length text.now) }

@@ -12,7 +12,7 @@ use Rattle.jx_maps.specs.inside.Step.{link_of, read_segment, opening}
 use Rattle.jx_maps.specs.Map.{stored, ArePlaced}
 use Rattle.jx_maps.specs.Shared.{has, after, shared_from, AllHeld}
 
--- what a contract sees of a bundle; live says of each state whether a track may stand in it
+-- a bundle as contracts see it; live says of each state whether a track may stand in it
 pub record Bundle : Type 0 where
   pub heads : List Link
   pub segments : List SegmentValue
@@ -47,14 +47,14 @@ pub record IsBundleOf (at : ℕ) (bytes : List ℕ) (live : List Bool) (b : Bund
   pub counted : (held : List LexState) → Within live held → stored b.segments ≤ shared_from held bytes
   pub placed : ArePlaced at (at + length bytes) b.segments
 
--- where the tracks stand behind the bytes
+-- where the tracks are after the bytes
 pub record Stands (bytes : List ℕ) (live : List Bool) (b : Bundle) : Type 0 where
   pub all : length b.live ≡ 32
   pub heads : (s : LexState) → LiveAt b.live (head b.heads s)
   pub segments : AllLive b.live b.segments
   pub held : (held : List LexState) → Within live held → Within b.live (after held bytes)
 
--- both bundles, one behind the other
+-- both bundles, one after the other
 abbrev pub joined_bundle : Bundle → Bundle → Bundle
 joined_bundle l r =
     record {

@@ -1,4 +1,4 @@
--- What stands at a span is a byte order mark alone in front of a sequence, and is passed.
+-- A span that is a byte order mark alone in front of a sequence, and is passed.
 use Rattle.std.specs.Prelude.{ℕ, Bool, false, List}
 use Rattle.jx_summary.specs.declared.span.Span.{Span}
 use Rattle.jx_run.specs.declared.texts.settings.FrontMark.{FrontMark}

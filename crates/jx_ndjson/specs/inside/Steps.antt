@@ -13,7 +13,7 @@ use Rattle.jx_ndjson.specs.Parts.{before_first}
 abbrev pub HasNoLineFeed : List ℕ → Type 0
 HasNoLineFeed bytes = before_first is_line_feed bytes ≡ bytes
 
--- by whether the line has blanks alone, and whether it may go on behind its last byte
+-- by whether the line has white space alone, and whether it may go on after its last byte
 abbrev pub told : Bool → Bool → Verdict → LineVerdict
 told true is_open v = Blank
 told false is_open (verdict.Refused refusal) = Refused refusal

@@ -9,12 +9,12 @@ use Rattle.jx_ndjson.specs.declared.judged_line.JudgedLine.{JudgedLine}
 use Rattle.jx_ndjson.specs.Answers.{are_blanks}
 use Rattle.jx_ndjson.specs.WholeLines.{AreWhole}
 
--- a text ends where a scan of it and its marks came to
+-- a text ends where a scan of it and its token starts led to
 abbrev pub IsEnd : Option LexExit → Whole → Type 0
 IsEnd None whole = ⊥
 IsEnd (Some exit) whole = verdict_from exit whole ≡ Accepted
 
--- the bytes are a text, and so not blanks alone
+-- the bytes are a text, and so not white space alone
 pub record IsTextWithin (limit : ℕ) (bytes : List ℕ) : Type 0 where
   pub judged : Judged 0 bytes limit Accepted
   pub not_blank : are_blanks bytes ≡ false

@@ -1,4 +1,4 @@
--- What a contract sees of a teller of elements, and what it has taken.
+-- A teller of elements as contracts see it, and what it has taken.
 use Rattle.std.specs.Prelude.{◌≡◌, ℕ, List, ◌++◌}
 use Rattle.jx_run.specs.declared.sequences.element_verdict.JudgedElement.{JudgedElement}
 use Rattle.jx_ndjson.specs.ElementReading.{ElementReaderValue, HasToldElements}

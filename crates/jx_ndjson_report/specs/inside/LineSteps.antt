@@ -1,4 +1,4 @@
--- What is written for one line, and for the counts of all.
+-- The output for one line, and for the counts of all.
 use Rattle.std.specs.Prelude.{ℕ, zero, suc, List, [], if◌then◌else◌}
 use Rattle.jx_ndjson.specs.declared.judged_line.JudgedLine.{JudgedLine}
 use Rattle.jx_ends.specs.declared.exit.Exit.{Exit}

@@ -1,4 +1,4 @@
--- What a contract sees of a teller of lines, and what it has taken.
+-- A teller of lines as contracts see it, and what it has taken.
 use Rattle.std.specs.Prelude.{◌≡◌, ℕ, List, ◌++◌, length}
 use Rattle.jx_ndjson.specs.declared.judged_line.JudgedLine.{JudgedLine}
 use Rattle.jx_ndjson.specs.Reading.{HasTold, LineReaderValue}

@@ -1,4 +1,4 @@
--- What was read of a part, or of a stream of records.
+-- The bytes read of a part, or of a stream of run files.
 use Rattle.std.specs.Prelude.{◌≡◌, ◌≢◌, ℕ, ◌+◌, ◌<◌, ◌≤◌, List, [], ◌++◌, length, take, drop, Option, None, Some, Vec}
 use Rattle.std.specs.Int.{from_be_bytes, w64}
 use Rattle.std.specs.List.{concat, AllByRecursion}
@@ -16,17 +16,17 @@ use Rattle.jx_parts.specs.declared.parts_fault.PartsFault.TheVariants.{Report, N
 use Rattle.jx_parts.specs.declared.parts_fault.RunRefusal.{RunRefusal}
 use Rattle.jx_parts.specs.declared.parts_fault.RunRefusal.TheVariants.{Misplaced, NoFrom}
 
--- all that the reader had was read, and this is its portion
+-- all that the reader had was read, and this is its partial result
 pub record IsRead (from : Option ℕ) (depth : ℕ) (unread left : Option (List ℕ)) (portion : PortionValue) : Type 0 where
   pub text : List ℕ
   pub read : ReadsToEnd unread left text
   pub of : IsPortion text from depth portion
 
--- how many bytes a record has by its head
+-- how many bytes a run file has by its head
 abbrev pub told_size : List ℕ → ℕ
 told_size bytes = from_be_bytes w64 (take 8 (drop 8 bytes))
 
--- the depth of a record's run by its head
+-- the depth of a run file's run by its head
 abbrev pub told_depth : List ℕ → ℕ
 told_depth bytes = from_be_bytes w64 (take 8 (drop 8 (drop 8 bytes)))
 
@@ -46,19 +46,19 @@ abbrev pub IsNextRecord : ℕ → Option (List ℕ) → Option (List ℕ) → Op
 IsNextRecord depth unread left None = ReadsToEnd unread left []
 IsNextRecord depth unread left (Some bytes) = IsCut depth unread left bytes.items
 
--- the reader gave bytes, and this is the portion that they say
+-- the reader gave bytes, and this is the partial result that they say
 pub record IsTaken (depth : ℕ) (unread left : Option (List ℕ)) (portion : PortionValue) : Type 0 where
   pub bytes : List ℕ
   pub cut : IsCut depth unread left bytes
   pub said : IsSaidBy bytes portion
   pub reads : (part : List ℕ) (from : Option ℕ) (d : ℕ) → IsRecord part from d bytes → IsPortion part from d portion
 
--- the reader is at its end, or gave a record
+-- the reader is at its end, or gave a run file
 abbrev pub IsNext : ℕ → Option (List ℕ) → Option (List ℕ) → Option PortionValue → Type 0
 IsNext depth unread left None = ReadsToEnd unread left []
 IsNext depth unread left (Some portion) = IsTaken depth unread left portion
 
--- so many records were read, and this is the portion of their parts
+-- so many run files were read, and this is the partial result of their parts
 pub record AreTaken (depth : ℕ) (unread left : Option (List ℕ)) (portion : PortionValue) : Type 0 where
   pub records : List (List ℕ)
   pub some : 0 < length records
@@ -68,12 +68,12 @@ pub record AreTaken (depth : ℕ) (unread left : Option (List ℕ)) (portion : P
   pub long : AllByRecursion HasItsLength records
   pub of : (from : Option ℕ) (d : ℕ) (parts : List (List ℕ)) → AreRecords d from parts records → IsPortion (concat parts) from d portion
 
--- so many records were read, and this is the portion of their parts
+-- so many run files were read, and this is the partial result of their parts
 pub record AreCounted (depth number : ℕ) (unread left : Option (List ℕ)) (portion : PortionValue) : Type 0 where
   pub taken : AreTaken depth unread left portion
   pub counted : number ≡ length taken.records
 
--- all that the reader had was read, and this is the portion of the parts whose records it was
+-- all that the reader had was read, and this is the partial result of the parts whose run files it was
 pub record IsJoined (depth : ℕ) (unread left : Option (List ℕ)) (portion : PortionValue) : Type 0 where
   pub stream : List ℕ
   pub holds : HoldsRuns depth portion.from portion.run.end stream
@@ -81,7 +81,7 @@ pub record IsJoined (depth : ℕ) (unread left : Option (List ℕ)) (portion : P
   pub of : (from : Option ℕ) (parts records : List (List ℕ)) → stream ≡ concat records → AreRecords depth from parts records
       → IsPortion (concat parts) from depth portion
 
--- the last of some records, and the part that it is of
+-- the last of some run files, and the part that it is of
 pub record IsLast (depth : ℕ) (from : Option ℕ) (parts records : List (List ℕ)) (bytes : List ℕ) : Type 0 where
   pub front : List (List ℕ)
   pub part : List ℕ
@@ -102,7 +102,7 @@ abbrev pub fault_of_run : DecodeFault → ℕ → PartsFault
 fault_of_run refused.Memory number = Report Memory
 fault_of_run (refused.Fault it) number = Run number (refusal_of it)
 
--- why a portion of the same depth does not stand behind another one
+-- why a partial result of the same depth does not follow another one
 pub data IsApart (joined next : PortionValue) (number : ℕ) (fault : PartsFault) : Type 0 where
   too_long : fault ≡ Report Memory → IsApart joined next number fault
   not_behind : (start at : ℕ) → joined.from ≡ Some start → next.from ≡ Some at → at ≢ start + joined.run.end → fault ≡ Run number (Misplaced at (start + joined.run.end))

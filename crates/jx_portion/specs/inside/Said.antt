@@ -1,4 +1,4 @@
--- What the record of a run says.
+-- The contents of the run file of a run.
 use Rattle.std.specs.Prelude.{◌≡◌, ℕ, List, [], ◌∷◌, Option, None, Some, map, reverse}
 use Rattle.jx_lex.specs.declared.alphabet.mark.Mark.{Mark}
 use Rattle.jx_reduce.specs.Form.{Form}
@@ -12,7 +12,7 @@ use Rattle.jx_portion.specs.Spelling.{structure, StructureFits}
 abbrev pub form_out : Form → FormFields
 form_out t = record { ended = t.ended; last = t.last; opens = reverse t.opens; exit = t.exit; heights = t.heights }
 
--- the first mark is a string where a second one or no form stands behind it
+-- the first token start is a string where a second one or no form follows it
 abbrev pub fields_at : List Mark → Option Form → StructureFields
 fields_at [] t = record { string = None; rest = None }
 fields_at (m ∷ []) None = record { string = Some m.at; rest = None }
@@ -26,7 +26,7 @@ fields_of s = fields_at s.head s.tail
 abbrev pub structure_said : StructureValue → List ℕ
 structure_said s = structure (fields_of s)
 
--- the structure is the one that its fields say, and they can be spelt
+-- the structure is the one that its fields say, and they can be written
 pub record IsSaid (s : StructureValue) : Type 0 where
   pub fits : StructureFits (fields_of s)
   pub sound : IsSound s

@@ -1,4 +1,4 @@
--- What may stand next before each byte of a block, as words of bits, and how the tokens of the block change it.
+-- Expectations before each byte of a block, as words of bits, and how the tokens of the block change them.
 use Rattle.std.specs.Prelude.{◌≡◌, ◌<◌, ℕ, zero, suc, Bool, true, false, not, ◌&&◌, ◌||◌, List, ◌∷◌, length}
 use Rattle.jx_block.specs.Listed.{is_set}
 use Rattle.jx_block.specs.declared.kinds.TokenKinds.{TokenKinds}

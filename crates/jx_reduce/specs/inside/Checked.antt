@@ -1,4 +1,4 @@
--- What the parts of forms are tested for.
+-- The tests that parts of forms must pass.
 use Rattle.std.specs.Prelude.{◌≡◌, ℕ, ◌+◌, Bool, true, not, ◌&&◌, ◌||◌, nat_le, nat_lt, Option, None, Some, is_some, length, if◌then◌else◌}
 use Rattle.std.specs.List.{list_all}
 use Rattle.jx_reduce.specs.Form.{Form, level_of}

@@ -1,4 +1,4 @@
--- How one reduced form goes on with the forms of further marks.
+-- How one reduced form goes on with the forms of further tokens.
 use Rattle.std.specs.Prelude.{ℕ, ◌<◌, List, length, slice_index_or, Option, Some, None}
 use Rattle.jx_reduce.specs.Form.{Form}
 use Rattle.jx_reduce.specs.Join.{joined}

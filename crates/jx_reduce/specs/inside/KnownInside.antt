@@ -20,7 +20,7 @@ reading_at (Some f) e s = fault_reading f
 abbrev pub known_of : Inside → Known
 known_of a = record { depth = a.depth; reading = reading_at a.fault a.expect a.open }
 
--- behind a fault, every mark is a fault: nothing is open, and nothing is expected
+-- after a fault, every token is a fault: nothing is open, and nothing is expected
 abbrev pub AtRest : Option Fault → Expect → List Holder → Type 0
 AtRest None e s = Unit {0}
 AtRest (Some f) e s = (e ≡ After) × (s ≡ [])

@@ -1,4 +1,4 @@
--- Bytes that are passed over at once, and what their marks make of a reading.
+-- Bytes that are skipped at once, and what their tokens make of a reading.
 use Rattle.std.specs.Prelude.{◌≡◌, ◌≤◌, ◌⊎◌, ℕ, List, Some, length, slice_range}
 use Rattle.jx_lex.specs.declared.alphabet.state.LexState.TheVariants.{Gap}
 use Rattle.jx_lex.specs.Lex as reading
@@ -12,7 +12,7 @@ use Rattle.jx_reduce.specs.declared.table.expect.Expect.TheVariants.{Value, Arra
 use Rattle.jx_reduce.specs.declared.stack.whole_tokens.Turn.{Turn}
 use Rattle.jx_reduce.specs.declared.stack.whole_tokens.Turn.TheVariants.{On, Stop}
 
--- the bytes are read from between tokens to between tokens, and their marks lead from one reading to the other
+-- the bytes are read from between tokens to between tokens, and their tokens lead from one reading to the other
 pub record Reads (depth : ℕ) (text : List ℕ) (from to : ℕ) (old new : Reading) : Type 0 where
   pub low : from ≤ to
   pub fits : to ≤ length text
@@ -28,7 +28,7 @@ expect_of (Stop e) = e
 abbrev pub TakesValue : Expect → Type 0
 TakesValue e = (e ≡ Value) ⊎ (e ≡ ArrayFirst)
 
--- behind a value this byte leads to what may stand next, and to these open containers
+-- after a value this byte leads to what may stand next, and to these open containers
 pub data Leaves (byte : ℕ) (then : Expect) (old new : List Holder) : Type 0 where
   comma : byte ≡ 0x2c → next_of Comma After (top old) ≡ Some then → new ≡ old → Leaves byte then old new
   array_end : byte ≡ 0x5d → next_of CloseArray After (top old) ≡ Some then → new ≡ without_top old → Leaves byte then old new

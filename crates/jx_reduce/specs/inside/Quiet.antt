@@ -1,4 +1,4 @@
--- Marks that change neither levels nor heights.
+-- Tokens that change neither levels nor heights.
 use Rattle.std.specs.Prelude.{◌≡◌, ℕ, ◌+◌, ◌≤◌, List, [], ◌∷◌, Some, is_some, not, Bool, false, if◌then◌else◌, length}
 use Rattle.jx_reduce.specs.Entries.{expect_at}
 use Rattle.jx_reduce.specs.Fits.{Fits}
@@ -27,7 +27,7 @@ bit_of Bottom = 4
 abbrev pub is_fault : MarkKind → Entry → Holder → Bool
 is_fault k x h = not (is_some (next_of k (expect_at x h) h))
 
--- the holders that a mark of this kind is a fault of
+-- the holders that a token of this kind is a fault of
 abbrev pub fault_bits : MarkKind → Entry → ℕ
 fault_bits k x = set_of (is_fault k x Array) (is_fault k x Object) (is_fault k x Bottom)
 
@@ -40,7 +40,7 @@ abbrev pub standing : ℕ → List Holder → ℕ
 standing base [] = base
 standing base (o ∷ _) = bit_of o
 
--- a form that stands at this entry inside these containers, in which marks are no deeper than this limit
+-- a form that stands at this entry inside these containers, in which tokens are no deeper than this limit
 pub record IsAt (d : ℕ) (r : Form) (os : List Holder) (limit b : ℕ) (x : Entry) : Type 0 where
   pub fits : Fits d r
   pub goes_on : all_faulted r.last ≡ false
@@ -50,14 +50,14 @@ pub record IsAt (d : ℕ) (r : Form) (os : List Holder) (limit b : ℕ) (x : Ent
   pub within : limit ≤ d
   pub low : limit ≤ length r.ended + length r.heights
 
--- what tells of this form whether a mark is quiet
+-- the limits of this form that decide whether a token is quiet
 pub record AreLimits (d : ℕ) (r : Form) (l : Limits) : Type 0 where
   pub within : l.most ≤ d
   pub low : l.most ≤ length r.ended + length r.heights
   pub base : l.base ≡ unfaulted r.last
   pub standing : l.standing ≡ standing l.base r.opens
 
--- a mark was pushed that changed at most the open containers and the exit
+-- a token was pushed that changed at most the open containers and the exit
 pub record IsPassed (d : ℕ) (r : Form) (m : Mark) (q : Form) (l : Limits) : Type 0 where
   pub form : q ≡ pushed d r m
   pub ended : q.ended ≡ r.ended

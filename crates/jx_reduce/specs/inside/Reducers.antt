@@ -1,4 +1,4 @@
--- What a reducer holds.
+-- The state of a reducer.
 use Rattle.std.specs.Prelude.{◌≡◌, ◌<◌, ◌≤◌, ℕ, Option, true, vec_capacity}
 use Rattle.jx_reduce.specs.Levels.{form_of}
 use Rattle.jx_reduce.specs.Reducer.{ReducerValue, past}
@@ -19,7 +19,7 @@ pub record IsReady (d : ℕ) (p : Making) (l : Limits) (last : Option ℕ) : Typ
   pub waits : Waits p
   pub limits : AreLimits d (form_of p.levels) l
 
--- quiet marks take no memory
+-- quiet tokens take no memory
 pub record IsReducing (a : Inside) : Type 0 where
   pub room : a.limits.most ≤ vec_capacity a.making.levels.opens
   pub ready : a.rising ≡ true → IsReady a.depth a.making a.limits a.last

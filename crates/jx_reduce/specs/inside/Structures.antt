@@ -40,7 +40,7 @@ form_behind (Some m) v = Some (form_of v)
 abbrev pub of_making : ℕ → Making → StructureValue
 of_making d p = record { depth = d; head = string_head p.string ++ first_head p.first; tail = form_behind p.first p.levels }
 
--- before the first mark nothing is read
+-- before the first token nothing is read
 abbrev pub Waits : Making → Type 0
 Waits p = p.first ≡ None → p.levels.exit ≡ None
 
@@ -52,7 +52,7 @@ abbrev pub KnowsDepth : ℕ → Option Rest → Type 0
 KnowsDepth d None = Unit {0}
 KnowsDepth d (Some r) = depth_of r.tail ≡ d
 
--- a form, and one behind it where something goes on
+-- a form, and one after it where something goes on
 abbrev pub tail_behind : ℕ → Form → Form → Option Entry → Form
 tail_behind d l t None = l
 tail_behind d l t (Some x) = joined d l t
@@ -65,13 +65,14 @@ then_tail d l (Some t) = tail_behind d l t l.exit
 abbrev pub followed_by : Form → StructureValue → Form
 followed_by t f = then_tail f.depth (of_marks f.depth t f.head) f.tail
 
--- marks that may be read behind those of a structure
+-- tokens that may be read after those of a structure
 pub record MayFollow (f : StructureValue) (ms : List Mark) : Type 0 where
   pub between : ℕ
   pub left : AreIn (λ p. p < between) f
   pub right : RisingFrom between ms
 
--- what stands behind the head, where these marks were read behind it: the first is kept, and leads to where the others are read
+-- what follows the head, where these tokens were read after it: the first is kept, and leads to where the others are
+-- read
 abbrev pub IsBegun : ℕ → List Mark → Option Rest → Type 0
 IsBegun d [] r = r ≡ None
 IsBegun d (m ∷ ms) None = ⊥
@@ -81,13 +82,13 @@ abbrev pub BeginsWithNoString : List Mark → Type 0
 BeginsWithNoString [] = Unit {0}
 BeginsWithNoString (m ∷ _) = m.kind ≡ String → ⊥
 
--- behind this string, if there is one, stands all of the right
+-- after this string, if there is one, stands all of the right
 pub record IsWhole (d : ℕ) (string : Option ℕ) (r : StructureValue) (s : Option ℕ) (rest : Option Rest) : Type 0 where
   pub head : string_head s ++ rest_head rest ≡ string_head string ++ r.head
   pub tail : rest_tail rest ≡ r.tail
   pub depth : KnowsDepth d rest
 
--- behind this string the right begins with a second one, behind which nothing goes on
+-- after this string the right begins with a second one, after which nothing goes on
 pub record AreTwo (d : ℕ) (string : Option ℕ) (r : StructureValue) (s : Option ℕ) (rest : Option Rest) : Type 0 where
   pub first : ℕ
   pub second : ℕ

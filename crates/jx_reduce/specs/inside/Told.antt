@@ -1,4 +1,4 @@
--- What looks on as bytes are passed over.
+-- Observers of bytes that are skipped.
 use Rattle.std.specs.Prelude.{◌≡◌, ◌==◌, ℕ, Bool, List, false, if◌then◌else◌, slice_range}
 use Rattle.jx_lex.specs.declared.alphabet.state.LexState.TheVariants.{Gap}
 use Rattle.jx_lex.specs.declared.alphabet.mark.MarkKind.{MarkKind}
@@ -6,11 +6,11 @@ use Rattle.jx_lex.specs.declared.alphabet.mark.MarkKind.TheVariants.{Comma, Clos
 use Rattle.jx_lex.specs.Lex.{lex}
 use Rattle.jx_lex.specs.Seen.{Awaits, Seen, SeesTrack}
 
--- which mark a comma or a closing bracket is
+-- which token a comma or a closing bracket is
 abbrev pub leaves_by : ℕ → MarkKind
 leaves_by byte = if byte == 0x2c then Comma else if byte == 0x5d then CloseArray else CloseObject
 
--- what looks on has seen the marks and ends of the bytes
+-- what looks on has seen the token starts and ends of the bytes
 abbrev pub Sees : Seen → Seen → List ℕ → ℕ → ℕ → Type 0
 Sees old new text from to = SeesTrack old new (lex Gap from (slice_range text from to))
 
@@ -18,6 +18,6 @@ Sees old new text from to = SeesTrack old new (lex Gap from (slice_range text fr
 abbrev pub heard : Bool → Seen → Seen
 heard failed seen = λ marks ends. failed ≡ false → seen marks ends
 
--- and then it awaits a mark
+-- and then it awaits a token
 abbrev pub awaits_mark : Bool → Awaits → Type 0
 awaits_mark failed awaits = failed ≡ false → awaits false

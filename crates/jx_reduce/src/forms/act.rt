@@ -1,4 +1,4 @@
-// What a reduced form answers for a list of open containers.
+// The answer of a reduced form for a list of open containers.
 
 ghost use Rattle.std.specs.Prelude.{◌≡◌, ◌≤◌, ◌+◌, ◌++◌, List, IfOk, MatchResult, length, reverse, take, slice_get};
 ghost use Rattle.jx_reduce.specs.Read.{top};
@@ -51,7 +51,7 @@ impl Levels {
         self.heights.get(index).copied()
     }
 
-    /// What the reading comes to in these open containers: where it goes on, its fault, or where it is too deep.
+    /// The outcome of the reading in these open containers: where it goes on, its fault, or where it is too deep.
     pub(crate) fn act(&self, depth: usize, holders: &[Holder]) -> Result<Outcome, AllocError>
         requires depth { length holders.now ≤ depth }
         requires fits { Fits depth (form_of self.now) }

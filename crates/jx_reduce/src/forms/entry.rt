@@ -11,7 +11,7 @@ use crate::table::moves::next;
 use jx_lex::{Mark, MarkKind};
 
 /// An expectation that may depend on the innermost container. What follows a comma depends on it, and so does what
-/// follows a string behind that comma.
+/// follows a string after that comma.
 #[derive(Clone, Copy, Debug, PartialEq, Eq)]
 pub enum Entry {
     Value,
@@ -83,7 +83,7 @@ impl Entry {
         }
     }
 
-    /// The entry behind a mark, for each holder that the mark is no fault of.
+    /// The entry after a token, for each holder that the token is no fault of.
     pub(crate) fn leads_to(self, kind: MarkKind) -> Entry
         ensures { result ≡ leads_to kind self }
     {
@@ -101,7 +101,7 @@ impl Entry {
         }
     }
 
-    /// The offset of the mark where it is a fault of this holder, or none.
+    /// The offset of the token where it is a fault of this holder, or none.
     fn fault_at(self, mark: Mark, holder: Holder) -> Option<usize>
         ensures { result ≡ fault_at self mark holder }
     {
@@ -111,7 +111,7 @@ impl Entry {
         }
     }
 
-    /// The holders that a mark is a fault of.
+    /// The holders that a token is a fault of.
     pub(crate) fn faults_at(self, mark: Mark) -> Level
         ensures { result ≡ faults_at self mark }
     {
@@ -122,7 +122,7 @@ impl Entry {
         }
     }
 
-    /// The level that a closing mark ends.
+    /// The level that a closing token ends.
     pub(crate) fn end_at(self, mark: Mark) -> EndedLevel
         ensures { result ≡ end_at self mark }
     {

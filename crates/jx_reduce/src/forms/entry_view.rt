@@ -1,4 +1,4 @@
-// What a structure comes to from one expectation, as it is shown.
+// The outcome of a structure from one expectation, as it is shown.
 ghost use Rattle.std.specs.Prelude.{◌≡◌, ◌≤◌, List, [], IfOk, length, reverse};
 ghost use Rattle.jx_reduce.specs.Fits.{IsOfSize};
 ghost use Rattle.jx_reduce.specs.Outcome.{reading_of};
@@ -17,7 +17,7 @@ use jx_lex::Depth;
 use std::alloc::AllocError;
 use std::marker::Model;
 
-/// What the marks of a structure come to from one expectation.
+/// A view of a structure from one expectation.
 #[derive(Drop)]
 pub struct EntryView<'a> {
     pub(crate) structure: &'a Structure,
@@ -40,8 +40,8 @@ impl<'a> EntryView<'a> {
         self.structure.depth()
     }
 
-    /// What the marks come to over these open containers, outermost first and none of them `Bottom`. The earlier of two
-    /// offsets is answered, and `Stopped` where they are equal. It fails only for want of memory.
+    /// The outcome of the tokens over these open containers, outermost first and none of them `Bottom`. The earlier of
+    /// two offsets is answered, and `Stopped` where they are equal. It fails only when out of memory.
     pub fn act(&self, holders: &[Holder]) -> Result<Outcome, AllocError>
         requires { length holders.now ≤ self.now.structure.depth }
         ensures { IfOk result (λ o. reading_of o ≡ answer_from self.now (reverse holders.now)) }
@@ -49,15 +49,16 @@ impl<'a> EntryView<'a> {
         self.structure.act(self.expect, holders)
     }
 
-    /// What `act` answers on the empty list, with the number of open containers in place of their list. It takes no memory.
+    /// The outcome that `act` answers on the empty list, with the number of open containers in place of their list. It
+    /// takes no memory.
     pub fn whole(&self) -> Whole
         ensures { result ≡ whole_of (answer_from self.now []) }
     {
         self.structure.whole(self.expect)
     }
 
-    /// The form of the marks, which is made of the first of them and of the form that is kept of those behind. It fails only
-    /// for want of memory.
+    /// The form of the tokens, which is made of the first of them and of the form that is kept of those after them. It
+    /// fails only when out of memory.
     pub fn reduced(&self) -> Result<Reduced, AllocError>
         ensures depth { IfOk result (λ r. depth_of r ≡ self.now.structure.depth) }
         ensures answers { IfOk result (λ r. (holders : List Holder) → length holders ≤ self.now.structure.depth → answer_of r holders ≡ answer_from self.now holders) }

@@ -7,8 +7,8 @@ use crate::forms::ended_level::EndedLevel;
 use crate::forms::quiet::{ARRAY, BOTTOM, OBJECT};
 use crate::table::holder::Holder;
 
-/// The marks directly in one container that was open at entry, or in none. Holds the offset of the first fault, if any,
-/// for each holder that the container may be.
+/// The tokens directly in one container that was open at entry, or in none. Holds the offset of the first fault, if
+/// any, for each holder that the container may be.
 #[derive(Clone, Copy, Debug, PartialEq, Eq)]
 pub struct Level {
     pub array: Option<usize>,

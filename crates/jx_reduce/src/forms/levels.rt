@@ -164,7 +164,7 @@ impl Levels {
         }
     }
 
-    /// Pushes a mark that opens a container.
+    /// Pushes a token that opens a container.
     fn open(
         &mut self,
         depth: usize,
@@ -186,7 +186,7 @@ impl Levels {
         self.extend(depth, right)
     }
 
-    /// Pushes a mark that closes a container.
+    /// Pushes a token that closes a container.
     fn close(&mut self, depth: usize, entry: Entry, mark: Mark) -> Result<(), AllocError>
         requires depth { depth < 2 ^ 32 }
         requires fits { Fits depth (form_of self.old) }
@@ -202,7 +202,7 @@ impl Levels {
         self.extend(depth, right)
     }
 
-    /// Pushes a mark that leaves the open containers as they are.
+    /// Pushes a token that leaves the open containers as they are.
     fn pass(&mut self, depth: usize, entry: Entry, mark: Mark) -> Result<(), AllocError>
         requires depth { depth < 2 ^ 32 }
         requires fits { Fits depth (form_of self.old) }
@@ -218,7 +218,7 @@ impl Levels {
         self.extend(depth, right)
     }
 
-    /// Pushes one more mark.
+    /// Pushes one more token.
     pub fn push(&mut self, depth: usize, mark: Mark) -> Result<(), AllocError>
         requires depth { depth < 2 ^ 32 }
         requires fits { Fits depth (form_of self.old) }
@@ -235,7 +235,8 @@ impl Levels {
         }
     }
 
-    /// Reads the first marks, as long as they change at most the open containers and the exit, and answers how many it read.
+    /// Reads the first tokens, as long as they change at most the open containers and the exit, and answers how many it
+    /// read.
     fn read_quiet(&mut self, depth: usize, marks: &[Mark]) -> usize
         requires depth { depth < 2 ^ 32 }
         requires fits { Fits depth (form_of self.old) }
@@ -253,7 +254,7 @@ impl Levels {
         taken
     }
 
-    /// What tells of the form whether a mark is quiet.
+    /// The limits of the form that decide whether a token is quiet.
     pub fn limits(&self, depth: usize) -> Limits
         ensures limits { AreLimits depth (form_of self.now) result }
         ensures room { result.most ≤ vec_capacity self.now.opens }
@@ -267,7 +268,7 @@ impl Levels {
         }
     }
 
-    /// Reads one more mark, if that changes at most the open containers and the exit. Answers whether it did.
+    /// Reads one more token, if that changes at most the open containers and the exit. Answers whether it did.
     #[inline(always)]
     pub fn pass_quiet(&mut self, limits: &mut Limits, mark: Mark) -> bool
         requires room { limits.old.most ≤ vec_capacity self.old.opens }
@@ -308,7 +309,7 @@ impl Levels {
         true
     }
 
-    /// The form of no marks.
+    /// The form of no tokens.
     pub fn new(alloc: Global, entry: Entry) -> Levels
         ensures { form_of result ≡ of_nothing entry }
     {
@@ -321,7 +322,7 @@ impl Levels {
         }
     }
 
-    /// Levels that no mark is read behind.
+    /// Levels after which no token is read.
     pub fn nowhere(alloc: Global) -> Levels
         ensures { (form_of result).exit ≡ None }
     {
@@ -334,7 +335,7 @@ impl Levels {
         }
     }
 
-    /// The form of these marks, read from this entry.
+    /// The form of these tokens, read from this entry.
     pub fn of(
         alloc: Global,
         entry: Entry,
@@ -349,7 +350,8 @@ impl Levels {
         Levels::new(alloc, entry).read_on(marks, depth)
     }
 
-    /// Reads these marks too. It takes the levels by value, since only some of the marks were read where memory is refused.
+    /// Reads these tokens too. It takes the levels by value, since only some of the tokens were read when out of
+    /// memory.
     pub fn read_on(self, marks: &[Mark], depth: usize) -> Result<Levels, AllocError>
         requires depth { depth < 2 ^ 32 }
         requires fits { Fits depth (form_of self) }

@@ -22,15 +22,15 @@ pub struct FormParts {
     pub heights: Vec<usize>,
 }
 
-/// A mark, and the parts of the form of the marks behind it.
+/// A token, and the parts of the form of the tokens after it.
 #[derive(Drop)]
 pub struct RestParts {
     pub mark: Mark,
     pub tail: FormParts,
 }
 
-/// The parts of a structure: the offset of a string with which the marks begin, the first mark behind it, and the form of
-/// those behind that.
+/// The parts of a structure: the offset of a string with which the tokens begin, the first token after it, and the form
+/// of those after that.
 #[derive(Drop)]
 pub struct StructureParts {
     pub string: Option<usize>,

@@ -1,4 +1,4 @@
-// Marks that change neither levels nor heights: at most the open containers and what may stand next.
+// Tokens that change neither levels nor heights: at most the open containers and what may stand next.
 
 ghost use Rattle.std.specs.Prelude.{◌≡◌, ◌≤◌, ◌<◌, ◌++◌, ℕ, [], ◌∷◌, length, reverse, take, true, false, vec_capacity};
 ghost use Rattle.jx_reduce.specs.Entries.{leads_to};
@@ -23,7 +23,7 @@ const ALL: u8 = ARRAY + OBJECT + BOTTOM;
 // Where a value may begin.
 const VALUE: [u8; 8] = [0, 0, ALL, ALL, ALL, ALL, OBJECT, ALL];
 
-// The holders that a mark is a fault of: a row for each kind of mark, with a set for each entry.
+// The holders that a token is a fault of: a row for each kind of token, with a set for each entry.
 static FAULTS: [[u8; 8]; 11] = [
     // OpenArray
     VALUE,
@@ -58,7 +58,7 @@ static FAULTS: [[u8; 8]; 11] = [
     VALUE,
 ];
 
-// Behind every mark but a string, the entry before it does not matter.
+// After every token but a string, the entry before it does not matter.
 const TO_ARRAY_FIRST: [Entry; 8] = [Entry::ArrayFirst; 8];
 
 const TO_OBJECT_FIRST: [Entry; 8] = [Entry::ObjectFirst; 8];
@@ -69,7 +69,7 @@ const TO_VALUE_OR_NAME: [Entry; 8] = [Entry::ValueOrName; 8];
 
 const TO_AFTER: [Entry; 8] = [Entry::After; 8];
 
-// The entry behind a mark: a row for each kind of mark, with the next entry for each entry.
+// The entry after a token: a row for each kind of token, with the next entry for each entry.
 static LEADS: [[Entry; 8]; 11] = [
     // OpenArray
     TO_ARRAY_FIRST,
@@ -104,8 +104,8 @@ static LEADS: [[Entry; 8]; 11] = [
     TO_AFTER,
 ];
 
-/// What tells at a mark whether it is quiet: how many containers may be open behind it, and the holders that a fault may
-/// concern, here and where nothing is open.
+/// The limits that decide whether a token is quiet: how many containers may be open after it, and the holders that a
+/// fault may concern, here and where nothing is open.
 #[derive(Clone, Copy)]
 pub(crate) struct Limits {
     pub most: usize,
@@ -114,7 +114,7 @@ pub(crate) struct Limits {
 }
 
 impl Limits {
-    /// Those of no marks.
+    /// Those of no tokens.
     pub const NONE: Limits = Limits {
         most: 0,
         base: ALL,
@@ -122,7 +122,7 @@ impl Limits {
     };
 }
 
-/// The holders that a mark of this kind is a fault of.
+/// The holders that a token of this kind is a fault of.
 #[inline(always)]
 pub(crate) fn faults(kind: MarkKind, entry: Entry) -> u8
     ensures { result ≡ fault_bits kind entry }
@@ -130,7 +130,7 @@ pub(crate) fn faults(kind: MarkKind, entry: Entry) -> u8
     FAULTS[kind as usize][entry as usize]
 }
 
-/// The entry behind a mark of this kind.
+/// The entry after a token of this kind.
 #[inline(always)]
 pub(crate) fn lead(kind: MarkKind, entry: Entry) -> Entry
     ensures { result ≡ leads_to kind entry }
@@ -177,9 +177,9 @@ pub(crate) fn enter(opens: &mut Vec<Holder>, most: usize, holder: Holder) -> boo
     true
 }
 
-/// Passes the marks that are no fault of any holder standing, end no level and reach no new height. It stops before
-/// the first that is none of these, and where one container more would need memory. It answers how many marks it took,
-/// and the entry behind them.
+/// Passes the tokens that are no fault of any holder left, end no level and reach no new height. It stops before the
+/// first other token, and where one container more would need memory. It answers how many tokens it took, and the entry
+/// after them.
 #[inline(never)]
 pub(crate) fn pass(
     opens: &mut Vec<Holder>,

@@ -1,4 +1,4 @@
-// The structure of a list of marks: the first one or two of them, and one form of those behind them.
+// The structure of a list of tokens: the first one or two of them, and one form of those after them.
 
 ghost use Rattle.std.specs.Prelude.{◌≡◌, ◌≤◌, ◌<◌, ◌+◌, ◌-◌, ◌^◌, ◌∷◌, ◌++◌, ◌↔◌, ℕ, List, [], length, map, reverse, None, Some, IfOk, IfSome, IsSome, IsTrue, MatchResult};
 ghost use Rattle.std.specs.Option.{SomeIff};
@@ -39,15 +39,15 @@ use jx_lex::{Depth, Mark, MarkKind};
 use std::alloc::{AllocError, Global};
 use std::marker::Model;
 
-/// A mark, and what the marks behind it come to.
+/// A token, and what the tokens after it lead to.
 #[derive(Drop)]
 pub(crate) struct Rest {
     mark: Mark,
     tail: Reduced,
 }
 
-/// A structure in the making: a string with which the marks begin, the first mark behind it, and the form of those behind
-/// that. Where there is no such mark the levels lead nowhere.
+/// A structure in the making: a string with which the tokens begin, the first token after it, and the form of those
+/// after that. Where there is no such token the levels lead nowhere.
 #[derive(Drop)]
 pub(crate) struct Making {
     pub string: Option<usize>,
@@ -55,16 +55,17 @@ pub(crate) struct Making {
     pub levels: Levels,
 }
 
-/// What a list of marks comes to, from each of the six expectations and for every list of open containers at entry that
-/// is no longer than the depth. Behind the first mark that is no string, or behind a second mark, all expectations that go
-/// on stand at the same place. So it keeps these one or two marks, and one form of all marks behind them.
+/// The structure of a list of tokens: its outcome from each of the six expectations and for every list of open
+/// containers at entry that is no longer than the depth. After the first token that is no string, or after a second
+/// token, all expectations that go on are at the same place. So it keeps these one or two tokens, and one form of all
+/// tokens after them.
 #[derive(Drop)]
 pub struct Structure {
     alloc: Global,
     pub(crate) depth: Depth,
-    /// A string with which the marks begin.
+    /// A string with which the tokens begin.
     string: Option<usize>,
-    /// The first mark behind it, and those behind that.
+    /// The first token after it, and those after that.
     rest: Option<Rest>,
 }
 
@@ -80,7 +81,7 @@ impl Model for Structure {
     ghost invariant = { λ a. IsSound (structure_of a) × KnowsDepth a.depth a.rest };
 }
 
-/// The expectation behind the string at this offset, if there is one; or the string, where it is a fault.
+/// The expectation after the string at this offset, if there is one; or the string, where it is a fault.
 fn behind_string(string: Option<usize>, expect: Expect) -> Result<Expect, usize>
     ensures { MatchResult result
         (λ e. (d : ℕ) (s : List Holder) → read d (string_head string) (went expect s) ≡ went e s)
@@ -104,7 +105,7 @@ fn without_innermost(holders: &[Holder]) -> &[Holder]
 }
 
 impl Rest {
-    /// This mark, and the marks behind it, which are read from where it leads.
+    /// This token, and the tokens after it, which are read from where it leads.
     fn of(alloc: Global, mark: Mark, marks: &[Mark], depth: Depth) -> Result<Rest, AllocError>
         ensures mark { IfOk result (λ r. r.mark ≡ mark) }
         ensures depth { IfOk result (λ r. depth_of r.tail ≡ depth) }
@@ -115,7 +116,7 @@ impl Rest {
         Ok(Rest { mark, tail })
     }
 
-    /// Reads these marks too.
+    /// Reads these tokens too.
     fn read_on(self, marks: &[Mark]) -> Result<Rest, AllocError>
         ensures mark { IfOk result (λ r. r.mark ≡ self.mark) }
         ensures depth { IfOk result (λ r. depth_of r.tail ≡ depth_of self.tail) }
@@ -126,7 +127,7 @@ impl Rest {
         Ok(Rest { mark, tail })
     }
 
-    /// Goes on with the marks of a structure.
+    /// Goes on with the tokens of a structure.
     fn followed_by(self, right: &Structure) -> Result<Rest, AllocError>
         requires { depth_of self.tail ≡ right.now.depth }
         ensures mark { IfOk result (λ r. r.mark ≡ self.mark) }
@@ -138,7 +139,7 @@ impl Rest {
         Ok(Rest { mark, tail })
     }
 
-    /// What the mark and those behind it come to over these open containers.
+    /// The outcome of the token and those after it over these open containers.
     fn act(&self, alloc: Global, expect: Expect, holders: &[Holder]) -> Result<Outcome, AllocError>
         requires { length holders.now ≤ depth_of self.now.tail }
         ensures { IfOk result (λ o. reading_of o ≡ then_by (λ _ s. answer_of self.now.tail s) (step (depth_of self.now.tail) self.now.mark (went expect (reverse holders.now)))) }
@@ -157,7 +158,7 @@ impl Rest {
         }
     }
 
-    /// What the marks behind come to in a container that the mark opens.
+    /// The outcome of the tokens after it in a container that the token opens.
     fn act_inside(
         &self,
         alloc: Global,
@@ -176,7 +177,7 @@ impl Rest {
         self.tail.act(&inside)
     }
 
-    /// What the mark and those behind it come to over no open container.
+    /// The outcome of the token and those after it over no open container.
     fn whole(&self, expect: Expect) -> Whole
         ensures { result ≡ whole_of (then_by (λ _ s. answer_of self.now.tail s) (step (depth_of self.now.tail) self.now.mark (went expect []))) }
     {
@@ -191,7 +192,7 @@ impl Rest {
         }
     }
 
-    /// What the marks behind come to in a container that the mark opens, and that stands in none.
+    /// The outcome of the tokens after it in a container that the token opens, and that is the outermost.
     fn whole_inside(&self, holder: Holder) -> Whole
         ensures { (e : Expect) → result ≡ whole_of (then_by (λ _ s. answer_of self.now.tail s) (changed (depth_of self.now.tail) self.now.mark.at (added holder) e [])) }
     {
@@ -216,7 +217,7 @@ impl Rest {
 }
 
 impl Rest {
-    /// The rest that has these parts behind this string, where they are sound.
+    /// The rest that has these parts after this string, where they are sound.
     fn of_parts(depth: Depth, string: Option<usize>, parts: RestParts) -> Option<Rest>
         ensures mark { IfSome result (λ r. r.mark ≡ parts.mark) }
         ensures depth { IfSome result (λ r. depth_of r.tail ≡ depth) }
@@ -254,7 +255,7 @@ impl Rest {
     }
 }
 
-/// The parts of what stands behind the first string, if anything does.
+/// The parts of what follows the first string, if anything does.
 fn parts_of(rest: &Option<Rest>) -> Option<RestRef<'_>>
     ensures head { borrowed_head result ≡ rest_head rest.now }
     ensures tail { borrowed_tail result ≡ rest_tail rest.now }
@@ -265,7 +266,7 @@ fn parts_of(rest: &Option<Rest>) -> Option<RestRef<'_>>
     }
 }
 
-/// Whether what stands behind the first string keeps no offset from this one on.
+/// Whether what follows the first string keeps no offset from this one on.
 fn ends_below(rest: &Option<Rest>, end: usize) -> bool
     ensures { IsTrue result ↔ EachIn (λ m. m.at < end) (rest_head rest.now) × TailIn (λ p. p < end) (rest_tail rest.now) }
 {
@@ -275,7 +276,7 @@ fn ends_below(rest: &Option<Rest>, end: usize) -> bool
     }
 }
 
-/// Whether a mark stands behind this string, if there is one.
+/// Whether a token follows this string, if there is one.
 fn stands_behind(mark: Mark, string: Option<usize>) -> bool
     ensures { IsTrue result ↔ RisingFrom 0 (string_head string ++ mark ∷ []) }
 {
@@ -285,7 +286,7 @@ fn stands_behind(mark: Mark, string: Option<usize>) -> bool
     }
 }
 
-/// A copy of what stands behind the first string, if anything does.
+/// A copy of what follows the first string, if anything does.
 fn copy_of(rest: &Option<Rest>) -> Result<Option<Rest>, AllocError>
     ensures head { IfOk result (λ r. rest_head r ≡ rest_head rest.now) }
     ensures tail { IfOk result (λ r. rest_tail r ≡ rest_tail rest.now) }
@@ -297,7 +298,7 @@ fn copy_of(rest: &Option<Rest>) -> Result<Option<Rest>, AllocError>
     }
 }
 
-/// The first mark and those behind it, which are read from where it leads.
+/// The first token and those after it, which are read from where it leads.
 fn begun(alloc: Global, marks: &[Mark], depth: Depth) -> Result<Option<Rest>, AllocError>
     ensures { IfOk result (IsBegun depth marks.now) }
 {
@@ -307,7 +308,7 @@ fn begun(alloc: Global, marks: &[Mark], depth: Depth) -> Result<Option<Rest>, Al
     }
 }
 
-/// The string with which marks begin, of which this one may be known, and the marks behind it.
+/// The string with which tokens begin, of which this one may be known, and the tokens after it.
 fn split_string(known: Option<usize>, marks: &[Mark]) -> (Option<usize>, &[Mark])
     ensures same { string_head result.0 ++ result.1.now ≡ string_head known ++ marks.now }
     ensures first { result.0 ≡ None → BeginsWithNoString result.1.now }
@@ -322,7 +323,7 @@ fn split_string(known: Option<usize>, marks: &[Mark]) -> (Option<usize>, &[Mark]
     (known, marks)
 }
 
-/// What stands behind the marks of two sides, of which the left has no more than this string.
+/// The rest after the tokens of two sides, of which the left has no more than this string.
 fn behind_strings(
     alloc: Global,
     string: Option<usize>,
@@ -332,7 +333,7 @@ fn behind_strings(
 {
     match (string, right.string) {
         (Some(_), Some(at)) => {
-            // Behind two strings nothing goes on, so any form serves.
+            // After two strings nothing goes on, so any form serves.
             let tail = Reduced::new(alloc, Entry::After, right.depth);
             let mark = Mark {
                 kind: MarkKind::String,
@@ -345,7 +346,7 @@ fn behind_strings(
     }
 }
 
-/// What stands behind the first string, if anything does, so many bytes further on.
+/// The rest after the first string, if there is any, so many bytes further on.
 fn moved(rest: Option<Rest>, by: usize) -> Option<Rest>
     ensures head { rest_head result ≡ map (moved_mark by) (rest_head rest) }
     ensures tail { rest_tail result ≡ moved_tail by (rest_tail rest) }
@@ -365,8 +366,8 @@ fn moved(rest: Option<Rest>, by: usize) -> Option<Rest>
 }
 
 impl Reduced {
-    /// Goes on with the marks of a structure behind its own. It takes the form by value, since only some of them were read
-    /// where memory is refused.
+    /// Goes on with the tokens of a structure after its own. It takes the form by value, since only some of them were
+    /// read when out of memory.
     pub(crate) fn followed_by(self, right: &Structure) -> Result<Reduced, AllocError>
         requires { depth_of self ≡ right.now.depth }
         ensures depth { IfOk result (λ r. depth_of r ≡ depth_of self) }
@@ -391,7 +392,7 @@ impl Reduced {
 }
 
 impl Structure {
-    /// The structure of no marks. It takes no memory.
+    /// The structure of no tokens. It takes no memory.
     pub fn new(alloc: Global, depth: Depth) -> Structure
         ensures depth { result.depth ≡ depth }
         ensures reads { IsOf [] result }
@@ -405,7 +406,7 @@ impl Structure {
         }
     }
 
-    /// The structure of these marks, each of which is read once. It fails only for want of memory.
+    /// The structure of these tokens, each of which is read once. It fails only when out of memory.
     pub fn of(alloc: Global, marks: &[Mark], depth: Depth) -> Result<Structure, AllocError>
         requires rising { RisingFrom 0 marks.now }
         ensures depth { IfOk result (λ f. f.depth ≡ depth) }
@@ -415,8 +416,8 @@ impl Structure {
         Structure::new(alloc, depth).read_on(marks)
     }
 
-    /// Reads these marks too, which stand behind its own. It takes the structure by value, since only some of the marks were
-    /// read where memory is refused.
+    /// Reads these tokens too, which follow its own. It takes the structure by value, since only some of the tokens
+    /// were read when out of memory.
     pub(crate) fn read_on(self, marks: &[Mark]) -> Result<Structure, AllocError>
         requires behind { MayFollow self marks.now }
         ensures depth { IfOk result (λ f. f.depth ≡ self.depth) }
@@ -477,7 +478,7 @@ impl Structure {
         }
     }
 
-    /// The same in the making, where more marks are read one by one.
+    /// The same in the making, where more tokens are read one by one.
     pub(crate) fn into_making(self) -> Making
         ensures same { of_making self.depth result ≡ self }
         ensures sound { IsSound self }
@@ -515,7 +516,7 @@ impl Structure {
         self.depth
     }
 
-    /// What the marks come to from this expectation.
+    /// The view of the tokens from this expectation.
     pub fn entry(&self, expect: Expect) -> EntryView<'_>
         ensures entry { result ≡ record { structure = self.now; expect = expect } }
         ensures size { IsSmall self.now.depth self.now }
@@ -528,8 +529,9 @@ impl Structure {
         }
     }
 
-    /// What the marks come to from this expectation over these open containers, outermost first and none of them `Bottom`.
-    /// The earlier of two offsets is answered, and `Stopped` where they are equal. It fails only for want of memory.
+    /// The outcome of the tokens from this expectation over these open containers, outermost first and none of them
+    /// `Bottom`. The earlier of two offsets is answered, and `Stopped` where they are equal. It fails only when out of
+    /// memory.
     pub fn act(&self, expect: Expect, holders: &[Holder]) -> Result<Outcome, AllocError>
         requires { length holders.now ≤ self.now.depth }
         ensures { IfOk result (λ o. reading_of o ≡ answer self.now expect (reverse holders.now)) }
@@ -547,7 +549,8 @@ impl Structure {
         }
     }
 
-    /// What `act` answers on the empty list, with the number of open containers in place of their list. It takes no memory.
+    /// The outcome that `act` answers on the empty list, with the number of open containers in place of their list. It
+    /// takes no memory.
     pub fn whole(&self, expect: Expect) -> Whole
         ensures { result ≡ whole_of (answer self.now expect []) }
     {
@@ -561,7 +564,7 @@ impl Structure {
         }
     }
 
-    /// The form of the marks from this expectation, which is made of the first marks and of the form behind them.
+    /// The form of the tokens from this expectation, which is made of the first tokens and of the form after them.
     pub fn reduced(&self, expect: Expect) -> Result<Reduced, AllocError>
         ensures depth { IfOk result (λ r. depth_of r ≡ self.now.depth) }
         ensures answers { IfOk result (λ r. (s : List Holder) → length s ≤ self.now.depth → answer_of r s ≡ answer self.now expect s) }
@@ -573,7 +576,7 @@ impl Structure {
         Ok(reduced)
     }
 
-    /// The form of the marks from this entry.
+    /// The form of the tokens from this entry.
     pub(crate) fn from_entry(&self, entry: Entry) -> Result<Reduced, AllocError>
         ensures depth { IfOk result (λ r. depth_of r ≡ self.now.depth) }
         ensures form { IfOk result (λ r. form_in r ≡ followed_by (of_nothing entry) self.now) }
@@ -581,7 +584,7 @@ impl Structure {
         Reduced::new(self.alloc, entry, self.depth).followed_by(self)
     }
 
-    /// A value equal to this one. It fails only for want of memory.
+    /// A value equal to this one. It fails only when out of memory.
     pub fn copy(&self) -> Result<Structure, AllocError>
         ensures { IfOk result (λ r. r ≡ self.now) }
     {
@@ -594,8 +597,8 @@ impl Structure {
         })
     }
 
-    /// The structure of the marks of both sides, the right's behind the left's. No mark is looked at again. It takes the left
-    /// by value, and fails only for want of memory.
+    /// The structure of the tokens of both sides, the right's after the left's. No token is looked at again. It takes
+    /// the left by value, and fails only when out of memory.
     pub fn extended(self, right: &Structure) -> Result<Structure, AllocError>
         requires depth { self.depth ≡ right.now.depth }
         requires before { IsBefore self right.now }
@@ -647,8 +650,8 @@ impl Structure {
         }
     }
 
-    /// The structure that has these parts, where they are sound: the string stands before the mark, and the mark before all
-    /// offsets of the form, which is within the depth. It takes no memory.
+    /// The structure that has these parts, where they are sound: the string is before the token, and the token before
+    /// all offsets of the form, which is within the depth. It takes no memory.
     pub fn of_parts(alloc: Global, depth: Depth, parts: StructureParts) -> Option<Structure>
         ensures { SomeIff result (IsSound (structure_of_parts depth parts)) (structure_of_parts depth parts) }
     {
@@ -682,7 +685,7 @@ impl Structure {
         ends_below(&self.rest, end)
     }
 
-    /// The structure of the same marks so many bytes further on. It takes no memory.
+    /// The structure of the same tokens so many bytes further on. It takes no memory.
     pub fn shifted(self, by: usize) -> Structure
         requires fits { SpansIn 0 (2 ^ 64 - by) self }
         ensures depth { result.depth ≡ self.depth }

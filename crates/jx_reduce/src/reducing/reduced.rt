@@ -1,4 +1,4 @@
-// What the marks from one expectation come to, for every list of open containers at entry.
+// The form of tokens from one expectation, for every list of open containers at entry.
 
 ghost use Rattle.std.specs.Prelude.{◌≡◌, ◌≤◌, ◌+◌, ◌++◌, ◌↔◌, [], OnOk, IfOk, IfSome, IsSome, IsTrue, length, reverse, slice_get};
 ghost use Rattle.jx_reduce.specs.Entries.{expect_at};
@@ -27,13 +27,13 @@ use crate::table::whole::Whole;
 use jx_lex::{Depth, Mark};
 use std::alloc::{AllocError, Global};
 
-/// What a list of marks comes to from one expectation, for every list of open containers at entry that is no longer
-/// than the depth. Level 0 stands in the innermost container at entry. Each level but the last ends with the close of
-/// its container, and the next stands in the container around it.
+/// The form of a list of tokens from one expectation, for every list of open containers at entry that is no longer than
+/// the depth. Level 0 is in the innermost container at entry. Each level but the last ends with the close of its
+/// container, and the next is in the container around it.
 ///
 /// Levels, open containers, exits and heights are the parts that `act` reads its answer off. Only that answer is
-/// settled by the marks. Two forms of the same marks may show different parts where no list of open containers within
-/// the depth tells the difference.
+/// settled by the tokens. Two forms of the same tokens may show different parts where no list of open containers within
+/// the depth shows the difference.
 #[derive(Drop)]
 pub struct Reduced {
     depth: Depth,
@@ -46,7 +46,7 @@ impl Reduced {
     ghost use Rattle.jx_reduce.specs.Reduced.{depth_of, form_in, answer_of};
     ghost use Rattle.jx_reduce.specs.inside.Structures.{tail_behind};
 
-    /// The form of no marks.
+    /// The form of no tokens.
     pub(crate) fn new(alloc: Global, entry: Entry, depth: Depth) -> Reduced
         ensures depth { depth_of result ≡ depth }
         ensures form { form_in result ≡ of_nothing entry }
@@ -57,7 +57,7 @@ impl Reduced {
         }
     }
 
-    /// The form of these marks, read from this entry.
+    /// The form of these tokens, read from this entry.
     pub(crate) fn of(
         alloc: Global,
         entry: Entry,
@@ -89,7 +89,7 @@ impl Reduced {
         levels
     }
 
-    /// Reads these marks too, each of them once.
+    /// Reads these tokens too, each of them once.
     pub(crate) fn read_on(self, marks: &[Mark]) -> Result<Reduced, AllocError>
         ensures depth { IfOk result (λ r. depth_of r ≡ depth_of self) }
         ensures form { IfOk result (λ r. form_in r ≡ of_marks (depth_of self) (form_in self) marks.now) }
@@ -144,7 +144,7 @@ impl Reduced {
     }
 
     /// The containers that were opened in the last level and are still open, outermost first. There are none where
-    /// nothing is kept behind a fault or behind an open that the depth does not allow.
+    /// nothing is kept after a fault or after an open that the depth does not allow.
     pub fn opens(&self) -> &[Holder]
         ensures opens { result.now ≡ reverse (form_in self.now).opens }
         ensures within { length result.now ≤ depth_of self.now }
@@ -152,8 +152,8 @@ impl Reduced {
         self.levels.opens.as_slice()
     }
 
-    /// The expectation behind the marks, where this is the holder of the last level. None where that holder has faulted,
-    /// or where one container too many was opened for every list of open containers.
+    /// The expectation after the tokens, where this is the holder of the last level. None where that holder has
+    /// faulted, or where one container too many was opened for every list of open containers.
     pub fn exit_of(&self, holder: Holder) -> Option<Expect>
         ensures { result ≡ exit_at (form_in self.now) holder }
     {
@@ -168,8 +168,8 @@ impl Reduced {
         }
     }
 
-    /// The offsets at which one container more than ever before in these marks stood open above the entry: for 1, 2, 3
-    /// and so on. An offset that is not below the fault which a list of open containers meets tells nothing of it.
+    /// The offsets at which one container more than ever before in these tokens was open above the entry: for 1, 2, 3
+    /// and so on. An offset that is not below the fault which a list of open containers meets says nothing of it.
     pub fn heights(&self) -> &[usize]
         ensures heights { result.now ≡ (form_in self.now).heights }
         ensures within { length result.now ≤ depth_of self.now + 1 }
@@ -177,8 +177,8 @@ impl Reduced {
         self.levels.heights.as_slice()
     }
 
-    /// What the marks come to over these open containers, outermost first and none of them `Bottom`. The earlier of two
-    /// offsets is answered, and `Stopped` where they are equal. It fails only for want of memory.
+    /// The outcome of the tokens over these open containers, outermost first and none of them `Bottom`. The earlier of
+    /// two offsets is answered, and `Stopped` where they are equal. It fails only when out of memory.
     pub fn act(&self, holders: &[Holder]) -> Result<Outcome, AllocError>
         requires { length holders.now ≤ depth_of self.now }
         ensures { IfOk result (λ o. reading_of o ≡ answer_of self.now (reverse holders.now)) }
@@ -186,7 +186,7 @@ impl Reduced {
         self.levels.act(self.depth.containers() as usize, holders)
     }
 
-    /// The entry behind the marks, for all holders that have not faulted.
+    /// The entry after the tokens, for all holders that have not faulted.
     pub(crate) fn exit(&self) -> Option<Entry>
         ensures { result ≡ (form_in self.now).exit }
     {
@@ -221,14 +221,15 @@ impl Reduced {
         }
     }
 
-    /// What `act` answers on the empty list, with the number of open containers in place of their list. It takes no memory.
+    /// The outcome that `act` answers on the empty list, with the number of open containers in place of their list. It
+    /// takes no memory.
     pub fn whole(&self) -> Whole
         ensures { result ≡ whole_of (answer_of self.now []) }
     {
         self.whole_over(&[])
     }
 
-    /// What `act` answers, with the number of open containers in place of their list. It takes no memory.
+    /// The outcome that `act` answers, with the number of open containers in place of their list. It takes no memory.
     pub(crate) fn whole_over(&self, holders: &[Holder]) -> Whole
         requires { length holders.now ≤ depth_of self.now }
         ensures { result ≡ whole_of (answer_of self.now (reverse holders.now)) }
@@ -250,7 +251,7 @@ impl Reduced {
         }
     }
 
-    /// Where the marks lead from these containers in the last level.
+    /// Where the tokens lead from these containers in the last level.
     fn went(&self, entry: Entry, left: &[Holder]) -> Whole
         requires { length left.now ≤ depth_of self.now }
         ensures { result ≡ whole_of (went (expect_at entry (top ((form_in self.now).opens ++ reverse left.now))) ((form_in self.now).opens ++ reverse left.now)) }

@@ -1,4 +1,4 @@
-// Marks that are reduced as they come.
+// Tokens that are reduced as they come.
 
 ghost use Rattle.std.specs.Prelude.{◌≡◌, ◌↔◌, ◌≤◌, ◌<◌, ◌++◌, ℕ, List, [], ◌∷◌, true, false, IsTrue, OnOk, IfOk};
 ghost use Rattle.jx_reduce.specs.Offsets.{RisingFrom, EachIn};
@@ -16,7 +16,8 @@ use std::alloc::{AllocError, Global};
 use std::marker::Model;
 use std::mem;
 
-/// The structure of marks that are given one by one, in the order of their offsets. Each is read at once, and none is held.
+/// A structure in the making, from tokens that are given one by one, in the order of their offsets. Each is read at
+/// once, and no token is kept.
 #[derive(Drop)]
 pub struct Reducer {
     alloc: Global,
@@ -50,7 +51,7 @@ fn is_past(last: Option<usize>, at: usize) -> bool
 }
 
 impl Reducer {
-    /// A reducer of no marks so far. It takes no memory.
+    /// A reducer of no tokens so far. It takes no memory.
     pub fn new(alloc: Global, depth: Depth) -> Reducer
         ensures depth { result.depth ≡ depth }
         ensures none { HasReduced [] result }
@@ -58,7 +59,7 @@ impl Reducer {
         Reducer::behind(Structure::new(alloc, depth), None)
     }
 
-    /// A reducer of marks that have come to this structure.
+    /// A reducer of tokens that have led to this structure.
     fn behind(structure: Structure, last: Option<usize>) -> Reducer
         requires below { AreIn (λ p. p < past last) structure }
         ensures { result ≡ record { depth = structure.depth; structure = structure; last = last; rising = true } }
@@ -93,7 +94,7 @@ impl Reducer {
         Structure::of_making(alloc, depth, making)
     }
 
-    /// Reads a mark that changes at most what is open and what may stand next. Answers whether it did.
+    /// Reads a token that changes at most what is open and what may stand next. Answers whether it did.
     #[inline(always)]
     fn pass(&mut self, mark: Mark) -> bool
         ensures depth { self.new.depth ≡ self.old.depth }
@@ -103,7 +104,7 @@ impl Reducer {
         self.making.levels.pass_quiet(&mut self.limits, mark)
     }
 
-    /// Whether nothing goes on behind the marks, whatever was open. Then no mark changes anything.
+    /// Whether nothing goes on after the tokens, whatever was open. Then no token changes anything.
     #[inline(always)]
     pub fn is_over(&self) -> bool
         ensures { IsTrue result → (marks more : List Mark) → HasReduced marks self.now → HasReduced (marks ++ more) self.now }
@@ -111,7 +112,7 @@ impl Reducer {
         self.making.levels.exit.is_none() && self.making.first.is_some()
     }
 
-    /// Reads any other mark. It fails only for want of memory.
+    /// Reads any other token. It fails only when out of memory.
     #[cold]
     #[inline(never)]
     fn read(&mut self, mark: Mark) -> Result<(), AllocError>
@@ -125,7 +126,7 @@ impl Reducer {
             self.rising = false;
             return Ok(());
         }
-        // The structure is lost where memory is refused. Then nothing is promised of the marks, as where they don't rise.
+        // The structure is lost when out of memory. Then nothing is promised of the tokens, as where they don't rise.
         let mut lost = Reducer::new(self.alloc, self.depth);
         lost.rising = false;
         let structure = mem::replace(self, lost).structure();
@@ -133,7 +134,7 @@ impl Reducer {
         Ok(())
     }
 
-    /// Pushes one more mark. It fails only for want of memory.
+    /// Pushes one more token. It fails only when out of memory.
     #[inline(always)]
     pub fn push(&mut self, mark: Mark) -> Result<(), AllocError>
         ensures depth { self.new.depth ≡ self.old.depth }
@@ -146,7 +147,7 @@ impl Reducer {
         Ok(())
     }
 
-    /// The structure of the marks that it was given. It fails only for want of memory.
+    /// The structure of the tokens that it was given. It fails only when out of memory.
     pub fn into_structure(self) -> Result<Structure, AllocError>
         ensures depth { IfOk result (λ f. f.depth ≡ self.depth) }
         ensures reads { (marks : List Mark) → HasReduced marks self → RisingFrom 0 marks → IfOk result (structure.IsOf marks) }
@@ -155,12 +156,12 @@ impl Reducer {
         if self.rising {
             Ok(self.structure())
         } else {
-            // Marks whose offsets don't rise have no structure.
+            // Tokens whose offsets don't rise have no structure.
             Ok(Structure::new(self.alloc, self.depth))
         }
     }
 
-    /// The structure of the marks that it was given, from each expectation. It fails only for want of memory.
+    /// The structure of the tokens that it was given, from each expectation. It fails only when out of memory.
     pub fn finish(self) -> Result<Reductions, AllocError>
         ensures depth { IfOk result (λ f. f.depth ≡ self.depth) }
         ensures reads { (marks : List Mark) → HasReduced marks self → RisingFrom 0 marks → IfOk result (IsOf marks) }

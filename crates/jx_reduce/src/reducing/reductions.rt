@@ -1,4 +1,4 @@
-// The structure of a list of marks, from each expectation.
+// The structure of a list of tokens, from each expectation.
 
 ghost use Rattle.std.specs.Prelude.{◌≡◌, ◌≤◌, ◌<◌, ◌++◌, ◌+◌, ◌-◌, ◌^◌, ℕ, List, [], length, map, replicate, OnOk, OnErr, IfOk, IfErr};
 ghost use Rattle.jx_reduce.specs.Offsets.{RisingFrom, EachIn};
@@ -21,8 +21,8 @@ use std::alloc::{AllocError, Global};
 use std::array;
 use std::marker::Model;
 
-/// What a list of marks comes to, from each of the six expectations and for every list of open containers at entry that
-/// is no longer than the depth. It keeps two further entries, for what stands behind a comma whose container is not known.
+/// The forms of a list of tokens from each of the six expectations, for every list of open containers at entry that is
+/// no longer than the depth. It keeps two further entries, for what follows a comma whose container is not known.
 #[derive(Drop)]
 pub struct Reductions {
     depth: Depth,
@@ -43,7 +43,7 @@ impl Model for Reductions {
 }
 
 impl Reductions {
-    /// The structure of no marks. It takes no memory.
+    /// The structure of no tokens. It takes no memory.
     pub fn new(alloc: Global, depth: Depth) -> Reductions
         ensures depth { result.depth ≡ depth }
         ensures reads { IsOf [] result }
@@ -55,8 +55,8 @@ impl Reductions {
         }
     }
 
-    /// The structure of these marks. Behind the first mark that is no string, or behind a second string, all entries
-    /// that go on stand at the same one. So the marks behind it are read once, for all of them. It fails only for want
+    /// The structure of these tokens. After the first token that is no string, or after a second string, all entries
+    /// that go on stand at the same one. So the tokens after it are read once, for all of them. It fails only when out
     /// of memory.
     pub fn of(alloc: Global, marks: &[Mark], depth: Depth) -> Result<Reductions, AllocError>
         requires rising { RisingFrom 0 marks.now }
@@ -68,7 +68,7 @@ impl Reductions {
         Reductions::of_structure(&structure)
     }
 
-    /// The form of a structure from each entry. It fails only for want of memory.
+    /// The form of a structure from each entry. It fails only when out of memory.
     pub fn of_structure(structure: &Structure) -> Result<Reductions, AllocError>
         ensures depth { IfOk result (λ f. f.depth ≡ structure.now.depth) }
         ensures answers { IfOk result (λ f. (e : Expect) (s : List Holder) → length s ≤ f.depth → answer f e s ≡ one.answer structure.now e s) }
@@ -90,7 +90,7 @@ impl Reductions {
         self.depth
     }
 
-    /// What the marks come to from this expectation.
+    /// The form of the tokens from this expectation.
     pub fn entry(&self, expect: Expect) -> &Reduced
         ensures depth { depth_of result.now ≡ self.now.depth }
         ensures form { form_in result.now ≡ form_at self.now (entry_of expect) }
@@ -99,7 +99,7 @@ impl Reductions {
         self.at(Entry::of(expect))
     }
 
-    /// What the marks come to from this entry.
+    /// The form of the tokens from this entry.
     fn at(&self, entry: Entry) -> &Reduced
         ensures depth { depth_of result.now ≡ self.now.depth }
         ensures form { form_in result.now ≡ form_at self.now entry }
@@ -155,7 +155,7 @@ impl Reductions {
         }
     }
 
-    /// A value equal to this one. It fails only for want of memory.
+    /// A value equal to this one. It fails only when out of memory.
     pub fn copy(&self) -> Result<Reductions, AllocError>
         ensures { IfOk result (λ r. r ≡ self.now) }
     {
@@ -170,8 +170,8 @@ impl Reductions {
         })
     }
 
-    /// Extends the left by the marks of the right, whose offsets lie behind those of the left. No mark is looked at again, and
-    /// what the left holds is not copied. Where memory is refused the left stays as it was.
+    /// Extends the left by the tokens of the right, whose offsets lie after those of the left. No token is looked at
+    /// again, and what the left holds is not copied. When out of memory the left stays as it was.
     pub fn extend(&mut self, right: &Reductions) -> Result<(), AllocError>
         requires depth { self.old.depth ≡ right.now.depth }
         requires before { IsBefore self.old right.now }
@@ -189,8 +189,8 @@ impl Reductions {
         Ok(())
     }
 
-    /// The structure of the marks of both sides, the right's behind the left's. It fails only for want of memory, and then
-    /// both sides are handed back as they were.
+    /// The structure of the tokens of both sides, the right's after the left's. It fails only when out of memory, and
+    /// then both sides are handed back as they were.
     pub fn join(self, right: Reductions) -> Result<Reductions, JoinFault<Reductions>>
         requires depth { self.depth ≡ right.depth }
         requires before { IsBefore self right }
@@ -207,7 +207,7 @@ impl Reductions {
         }
     }
 
-    /// The structure of the same marks so many bytes further on. It takes no memory.
+    /// The structure of the same tokens so many bytes further on. It takes no memory.
     pub fn shifted(self, by: usize) -> Reductions
         requires fits { SpansIn 0 (2 ^ 64 - by) self }
         ensures depth { result.depth ≡ self.depth }

@@ -17,8 +17,8 @@ use std::simd::prelude::*;
 /// How many bytes a block has.
 const BLOCK: usize = 64;
 
-/// How many tokens other than numbers and literals a block must have, so that another one is tried behind it. With fewer, one
-/// token after another is faster.
+/// How many tokens other than numbers and literals a block must have, so that another one is tried after it. With
+/// fewer, one token after another is faster.
 const CLOSE: u32 = 20;
 
 /// How many commas must stand in 64 bytes, so that a block is tried there.
@@ -27,20 +27,20 @@ const CLOSE_COMMAS: u32 = 8;
 /// How many bytes are read token by token, before a block is tried again.
 const STRETCH: usize = 16384;
 
-/// What a block came to.
+/// The result of reading a block.
 #[derive(Clone, Copy)]
 struct Passed {
     /// How many bytes were read.
     len: usize,
     /// How many tokens other than numbers and literals begin in them.
     tokens: u32,
-    /// What may stand next behind them.
+    /// The expectation after them.
     then: Expect,
 }
 
-/// Reads the tokens that begin in the first bytes of a block, from what may stand next before them. Gives what may stand next
-/// behind them. It gives nothing, and changes nothing, where one of them may not stand where it does, and where no container is
-/// open, or the innermost word of them would run full or empty.
+/// Reads the tokens that begin in the first bytes of a block, from what may stand next before them. Gives what may
+/// stand next after them. It gives nothing, and changes nothing, where one of them may not stand where it does, and
+/// where no container is open, or the innermost word of them would run full or empty.
 #[inline(always)]
 fn follow<H: Containers>(
     kinds: &TokenKinds,
@@ -94,8 +94,8 @@ fn block<H: Containers>(
     })
 }
 
-/// Reads whole tokens by blocks, as long as tokens stand close together. Gives the offset behind them, and what may stand next
-/// there.
+/// Reads whole tokens by blocks, as long as tokens stand close together. Gives the offset after them, and what may
+/// stand next there.
 #[inline(never)]
 pub(crate) fn blocks<H: Containers>(
     text: &[u8],
@@ -133,7 +133,7 @@ pub(crate) fn blocks<H: Containers>(
 fn are_close(text: &[u8], at: usize) -> bool
     requires { at + 64 ≤ length text.now }
 {
-    // Where a blank follows, tokens mostly stand far apart.
+    // Where white space follows, tokens mostly stand far apart.
     if text[at] <= b' ' {
         return false;
     }
@@ -164,7 +164,7 @@ fn blocks_where_close<H: Containers>(
     blocks(text, from, to, expect, holders, most)
 }
 
-/// The end of a stretch that is read token by token.
+/// The end of the bytes that are read token by token.
 #[inline(always)]
 fn stretch_end(from: usize, to: usize) -> usize
     requires { from ≤ to }
@@ -177,8 +177,8 @@ fn stretch_end(from: usize, to: usize) -> usize
     }
 }
 
-/// Reads whole tokens from a place where a value stands next: by blocks where tokens stand close together, and otherwise one by
-/// one. Gives the offset behind them, and what may stand next there.
+/// Reads whole tokens from a place where a value stands next: by blocks where tokens stand close together, and
+/// otherwise one by one. Gives the offset after them, and what may stand next there.
 #[inline(always)]
 pub(crate) fn stretches<H: Containers>(
     text: &[u8],

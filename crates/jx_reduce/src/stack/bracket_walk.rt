@@ -14,7 +14,7 @@ use jx_block::TokenKinds;
 /// How many containers a word holds.
 const WORD: usize = 64;
 
-/// What the brackets of a block come to.
+/// The result of the brackets of a block.
 #[derive(Clone, Copy)]
 pub(crate) struct Walked {
     pub inner: Innermost,
@@ -89,7 +89,7 @@ fn bracket(kinds: &TokenKinds, k: usize, inner: Innermost, room: usize) -> Optio
     closed(inner, is_bit(kinds.close_objects, k))
 }
 
-/// The word with the bits behind byte k all set, or none of them.
+/// The word with the bits after byte k all set, or none of them.
 #[inline(always)]
 fn with_behind(word: u64, k: usize, set: bool) -> u64
     requires { k < 64 }
@@ -130,7 +130,7 @@ pub(crate) fn walk(kinds: &TokenKinds, inner: Innermost, room: usize) -> Option<
         left &= left - 1;
         from = k + 1;
     }
-    // Tells the proof that all brackets stand before this place.
+    // Shows the proof that all brackets are before this place.
     let _ = from;
     Some(Walked { inner, objects })
 }

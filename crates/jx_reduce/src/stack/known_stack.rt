@@ -1,4 +1,4 @@
-// The moves over marks from the start of a text.
+// The moves over tokens from the start of a text.
 
 ghost use Rattle.std.specs.Prelude.{◌≡◌, ◌↔◌, ◌++◌, ◌+◌, ◌<◌, ◌≤◌, List, [], ◌∷◌, IsTrue, OnOk, OnErr, IfOk, false, length, reverse, slice_range};
 ghost use Rattle.jx_reduce.specs.Table.{added};
@@ -30,8 +30,8 @@ enum Fault {
     TooDeep(usize),
 }
 
-/// What marks come to from the start of a text, where a value is expected and nothing is open. Applies the moves at
-/// each of them to the open containers (RFC 8259, sections 2 to 5). Up to 64 open containers take no memory.
+/// The known stack of a text that is read from its start, where a value is expected and nothing is open. Applies the
+/// moves at each token to the open containers (RFC 8259, sections 2 to 5). Up to 64 open containers take no memory.
 #[derive(Drop)]
 pub struct KnownStack {
     depth: Depth,
@@ -75,7 +75,7 @@ impl KnownStack {
         self.depth
     }
 
-    /// Whether a fault was met. Behind it no mark changes anything.
+    /// Whether a fault was met. After it no token changes anything.
     #[inline(always)]
     pub fn is_done(&self) -> bool
         ensures { IsTrue result ↔ IsFault self.now.reading }
@@ -83,7 +83,7 @@ impl KnownStack {
         self.fault.is_some()
     }
 
-    /// What the marks have come to.
+    /// The outcome of the tokens so far.
     pub fn whole(&self) -> Whole
         ensures { result ≡ whole_of self.now.reading }
     {
@@ -112,7 +112,7 @@ impl KnownStack {
     }
 
     /// Takes out what may stand next and the open containers, outermost first, where no fault was met. What the stack
-    /// stands for behind that is not told.
+    /// stands for after that is not said.
     pub fn take_standing(&mut self) -> Result<(Expect, Vec<Holder>), AllocError>
         requires going { IsFault self.old.reading → ⊥ }
         ensures depth { self.new.depth ≡ self.old.depth }
@@ -126,8 +126,8 @@ impl KnownStack {
         Ok((expect, holders))
     }
 
-    /// Stands, from now on, where this may stand next and these containers are open, outermost first. They are refused, as
-    /// for want of memory, where one of them is `Bottom`.
+    /// Stands, from now on, where this may stand next and these containers are open, outermost first. They are refused,
+    /// as when out of memory, where one of them is `Bottom`.
     pub fn stand(&mut self, expect: Expect, holders: &[Holder]) -> Result<(), AllocError>
         requires within { length holders.now ≤ self.old.depth }
         ensures depth { self.new.depth ≡ self.old.depth }
@@ -170,7 +170,7 @@ impl KnownStack {
         Ok(())
     }
 
-    /// The move at one mark.
+    /// The move at one token.
     #[inline(always)]
     fn step(&mut self, mark: Mark) -> Result<(), AllocError>
         ensures depth { self.new.depth ≡ self.old.depth }
@@ -191,8 +191,8 @@ impl KnownStack {
         Ok(())
     }
 
-    /// Pushes one more mark. It fails only for want of memory, where one more container takes one more word, and then nothing
-    /// changes.
+    /// Pushes one more token. It fails only when out of memory, where one more container takes one more word, and then
+    /// nothing changes.
     #[inline(always)]
     pub fn push(&mut self, mark: Mark) -> Result<(), AllocError>
         ensures depth { self.new.depth ≡ self.old.depth }
@@ -204,8 +204,8 @@ impl KnownStack {
         Ok(())
     }
 
-    /// Reads whole tokens of a text from between tokens on, where a value may stand next, as many as are ordinary. Gives the
-    /// offset behind them, which is between tokens too.
+    /// Reads whole tokens of a text from between tokens on, where a value may stand next, as many as are ordinary.
+    /// Gives the offset after them, which is between tokens too.
     #[inline(always)]
     pub fn pass(&mut self, text: &[u8], from: usize, to: usize) -> usize
         requires { (from ≤ to) × (to ≤ length text.now) }
@@ -254,7 +254,7 @@ impl KnownStack {
         at
     }
 
-    /// Takes one mark after another, and stops once the reading is done: the reading is that of all of them.
+    /// Takes one token after another, and stops once the reading is done: the reading is that of all of them.
     fn step_all(&mut self, marks: &[Mark]) -> Result<(), AllocError>
         ensures depth { self.new.depth ≡ self.old.depth }
         ensures reads { OnOk result (self.new.reading ≡ read self.old.depth marks.now self.old.reading) }
@@ -269,7 +269,8 @@ impl KnownStack {
         Ok(())
     }
 
-    /// Pushes one mark after another. It fails only where `push` of one of them does: the marks before that one were taken.
+    /// Pushes one token after another. It fails only where `push` of one of them does: the tokens before that one were
+    /// taken.
     pub fn extend(&mut self, marks: &[Mark]) -> Result<(), AllocError>
         ensures depth { self.new.depth ≡ self.old.depth }
         ensures reads { OnOk result (self.new.reading ≡ read self.old.depth marks.now self.old.reading) }

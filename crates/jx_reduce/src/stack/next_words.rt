@@ -1,4 +1,4 @@
-// What may stand next before each byte of a block, as words of bits.
+// Expectations before each byte of a block, as words of bits.
 ghost use Rattle.std.specs.Prelude.{◌≡◌, ◌<◌, ◌&&◌, ◌||◌, ℕ, suc, IfSome, true, false, not};
 ghost use Rattle.jx_lex.specs.inside.Bits.{bit};
 ghost use Rattle.jx_reduce.specs.inside.Blocks.{expect_at, LeadsBy, Placed, Turns};
@@ -6,7 +6,7 @@ ghost use Rattle.jx_reduce.specs.inside.Blocks.{expect_at, LeadsBy, Placed, Turn
 use crate::table::expect::Expect;
 use jx_block::TokenKinds;
 
-/// What may stand next before each byte of a block. Bit k of a word stands for byte k.
+/// The expectations before each byte of a block. Bit k of a word stands for byte k.
 #[derive(Clone, Copy)]
 struct NextWords {
     /// A value.
@@ -17,8 +17,8 @@ struct NextWords {
     first: u64,
 }
 
-/// Sets a bit behind each bit of `to`, and behind it as far as the next bit of `starts`. Bit 0 is the carry, and goes on so.
-/// Who calls it looks at each bit once more, so that no proof rests on it.
+/// Sets a bit after each bit of `to`, and after it as far as the next bit of `starts`. Bit 0 is the carry, and goes on
+/// so. Who calls it looks at each bit once more, so that no proof rests on it.
 #[inline(always)]
 fn spread(to: u64, starts: u64, carry: u64) -> u64 {
     let others = !starts;
@@ -38,7 +38,7 @@ fn bits_of(expect: Expect) -> (u64, u64, u64) {
     }
 }
 
-/// Behind which tokens a value may stand.
+/// After which tokens a value may stand.
 #[inline(always)]
 fn to_value(kinds: &TokenKinds, objects: u64) -> u64
     ensures { (k : ℕ) → k < 64 → bit result k ≡ ((bit kinds.now.open_arrays k || bit kinds.now.colons k) || (bit kinds.now.commas k && not (bit objects k))) }
@@ -46,7 +46,7 @@ fn to_value(kinds: &TokenKinds, objects: u64) -> u64
     kinds.open_arrays | kinds.colons | (kinds.commas & !objects)
 }
 
-/// Behind which tokens a name may stand.
+/// After which tokens a name may stand.
 #[inline(always)]
 fn to_name(kinds: &TokenKinds, objects: u64) -> u64
     ensures { (k : ℕ) → bit result k ≡ (bit kinds.now.open_objects k || (bit kinds.now.commas k && bit objects k)) }
@@ -54,7 +54,7 @@ fn to_name(kinds: &TokenKinds, objects: u64) -> u64
     kinds.open_objects | (kinds.commas & objects)
 }
 
-/// Behind which tokens the first of a container may stand, or a colon.
+/// After which tokens the first of a container may stand, or a colon.
 #[inline(always)]
 fn to_first(kinds: &TokenKinds, value: u64) -> u64
     ensures { (k : ℕ) → k < 64 → bit result k ≡ ((bit kinds.now.open_arrays k || bit kinds.now.open_objects k) || (bit kinds.now.strings k && not (bit value k))) }
@@ -62,7 +62,7 @@ fn to_first(kinds: &TokenKinds, value: u64) -> u64
     kinds.open_arrays | kinds.open_objects | (kinds.strings & !value)
 }
 
-/// What may stand next before each byte. It is only sure where [`wrong`] has no bit.
+/// The expectations before each byte. They are only sure where [`wrong`] has no bit.
 #[inline(always)]
 fn words_of(kinds: &TokenKinds, starts: u64, objects: u64, expect: Expect) -> NextWords {
     let (value, name, first) = bits_of(expect);
@@ -127,7 +127,7 @@ pub(crate) fn is_bit(word: u64, k: usize) -> bool
     (word >> k) & 1 == 1
 }
 
-/// What may stand next before byte k.
+/// The expectation before byte k.
 #[inline(always)]
 fn expect_before(next: &NextWords, k: usize) -> Expect
     requires { k < 64 }
@@ -147,7 +147,7 @@ fn expect_before(next: &NextWords, k: usize) -> Expect
     }
 }
 
-/// What may stand next behind the first bytes of a block, where each of its tokens stands where it may.
+/// The expectation after the first bytes of a block, where each of its tokens is allowed where it is.
 #[inline(always)]
 pub(crate) fn next_behind(
     kinds: &TokenKinds,

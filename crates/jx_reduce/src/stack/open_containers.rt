@@ -158,7 +158,8 @@ impl OpenContainers {
         Ok(holders)
     }
 
-    /// Opens these containers, the outermost first. They are refused, as for want of memory, where one of them is `Bottom`.
+    /// Opens these containers, the outermost first. They are refused, as when out of memory, where one of them is
+    /// `Bottom`.
     pub fn push_all(&mut self, holders: &[Holder]) -> Result<(), AllocError>
         ensures ok { OnOk result (self.new ≡ reverse holders.now ++ self.old) }
         ensures more { length self.new ≤ length holders.now + length self.old }

@@ -41,9 +41,9 @@ pub(crate) fn may_pass(text: &[u8], from: usize, to: usize, expect: Expect) -> b
     takes_value(expect)
 }
 
-/// Reads whole tokens of a text from between tokens on, where a value may stand next, as many as are ordinary. Returns the
-/// offset behind them, which is between tokens too, and what may stand next there. No more than `most` containers stand open
-/// behind any of them.
+/// Reads whole tokens of a text from between tokens on, where a value may stand next, as many as are ordinary. Returns
+/// the offset after them, which is between tokens too, and what may stand next there. No more than `most` containers
+/// stand open after any of them.
 #[inline(always)]
 pub fn pass_tokens<H: Containers>(
     text: &[u8],

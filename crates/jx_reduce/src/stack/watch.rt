@@ -1,4 +1,4 @@
-// What looks on as whole tokens are read.
+// Observers of whole tokens.
 ghost use Rattle.std.specs.Prelude.{◌≡◌, ◌∷◌, [], ℕ, List, false, true};
 ghost use Rattle.jx_lex.specs.declared.alphabet.mark.Mark.{Mark as MarkOf};
 ghost use Rattle.jx_lex.specs.Seen.{Grows, has_end};
@@ -6,7 +6,7 @@ ghost use Rattle.jx_reduce.specs.inside.Told.{awaits_mark, heard};
 
 use jx_lex::{Mark, TokenSink};
 
-/// What looks on as whole tokens are read: it takes each token in one call, and no call fails.
+/// An observer of whole tokens as they are read: it takes each token in one call, and no call fails.
 pub(crate) trait Watch {
     ghost has_seen: { Self → List MarkOf → List ℕ → Type 0 };
 
@@ -54,7 +54,7 @@ impl Watch for Nothing {
     fn named(&mut self, _mark: Mark, _to: usize) {}
 }
 
-/// A sink of tokens that looks on. Once memory is refused it takes nothing more, and has failed.
+/// A sink of tokens that looks on. Once out of memory it takes nothing more, and has failed.
 #[derive(Drop)]
 pub struct Listener<K: Drop> {
     pub sink: K,

@@ -19,7 +19,7 @@ use jx_lex::{Ahead, Mark, MarkKind, pass_blanks, pass_literal, pass_number, pass
 /// How many bytes the text must have from wherever a token is read on: none of those that are compared stands past its end.
 pub(crate) const ROOM: usize = 32;
 
-/// What may stand next, and whether reading goes on there.
+/// The expectation, and whether reading goes on there.
 #[derive(Clone, Copy)]
 pub(crate) enum Turn {
     On(Expect),
@@ -45,7 +45,7 @@ pub(crate) fn takes_value(expect: Expect) -> bool
     matches!(expect, Expect::Value | Expect::ArrayFirst)
 }
 
-/// The first offset at which no token is read: `to`, or an earlier one behind which the text has no room.
+/// The first offset at which no token is read: `to`, or an earlier one after which the text has no room.
 #[inline(always)]
 fn last_start(text: &[u8], to: usize) -> usize
     requires { (32 ≤ length text.now) × (to ≤ length text.now) }
@@ -55,7 +55,7 @@ fn last_start(text: &[u8], to: usize) -> usize
     (text.len() - ROOM + 1).min(to)
 }
 
-/// A mark.
+/// A token.
 #[inline(always)]
 fn mark_at(kind: MarkKind, at: usize) -> Mark
     ensures { result ≡ record { kind = kind; at = at } }
@@ -63,7 +63,7 @@ fn mark_at(kind: MarkKind, at: usize) -> Mark
     Mark { kind, at }
 }
 
-/// Which mark a comma or a closing bracket is.
+/// Which token a comma or a closing bracket is.
 #[inline(always)]
 fn leave_kind(byte: u8) -> MarkKind
     ensures value { result ≡ leaves_by byte }
@@ -93,7 +93,7 @@ fn literal_kind(byte: u8) -> MarkKind
     }
 }
 
-/// Goes past blanks, and says whether a token may be read behind them: one that begins before `last`.
+/// Goes past white space, and says whether a token may be read after it: one that begins before `last`.
 #[inline(always)]
 fn skip(text: &[u8], at: &mut usize, last: usize, to: usize) -> bool
     requires bounds { (at.old ≤ to) × (last ≤ to) × (to ≤ length text.now) }
@@ -109,7 +109,8 @@ fn skip(text: &[u8], at: &mut usize, last: usize, to: usize) -> bool
     *at < last
 }
 
-/// Goes past blanks and the name behind them, and says whether one stands there. Where none does, it goes past the blanks.
+/// Goes past white space and the name after it, and says whether there is one. Without a name it goes past the
+/// white space.
 #[inline(always)]
 fn name<W: Watch>(
     text: &[u8],
@@ -144,7 +145,7 @@ fn name<W: Watch>(
     true
 }
 
-/// The colon behind a name.
+/// The colon after a name.
 #[inline(always)]
 fn colon<W: Watch>(text: &[u8], at: &mut usize, last: usize, to: usize, watch: &mut W) -> Turn
     requires bounds { (at.old ≤ to) × (last ≤ to) × (to ≤ length text.now) }
@@ -163,7 +164,7 @@ fn colon<W: Watch>(text: &[u8], at: &mut usize, last: usize, to: usize, watch: &
     Turn::On(Expect::Value)
 }
 
-/// A name and its colon, from the blanks in front of it on.
+/// A name and its colon, from the white space in front of it on.
 #[inline(always)]
 fn pair<W: Watch>(
     text: &[u8],
@@ -276,8 +277,8 @@ fn literal<W: Watch>(text: &[u8], at: &mut usize, to: usize, expect: Expect, wat
     Turn::On(Expect::After)
 }
 
-/// What may stand next behind a comma or a closing bracket that stands behind a value, and closes the container that the
-/// bracket ends. None where the byte is another one, or may not stand there.
+/// The expectation after a comma or a closing bracket that follows a value, and closes the container that the bracket
+/// ends. None where the byte is another one, or is not allowed there.
 #[inline(always)]
 fn leave<H: Containers>(byte: u8, holders: &mut H) -> Option<Expect>
     ensures some { IfSome result (λ then. Leaves byte then (H.list holders.old) (H.list holders.new)) }
@@ -298,7 +299,7 @@ fn leave<H: Containers>(byte: u8, holders: &mut H) -> Option<Expect>
     }
 }
 
-/// Whether the byte is a blank that often stands behind a number.
+/// Whether the byte is white space that often follows a number.
 #[inline(always)]
 fn is_blank(byte: u8) -> bool
     ensures { IsTrue result → (byte ≡ 0x20) ⊎ (byte ≡ 0x0a) ⊎ (byte ≡ 0x0d) }
@@ -306,7 +307,7 @@ fn is_blank(byte: u8) -> bool
     byte == b' ' || byte == b'\n' || byte == b'\r'
 }
 
-/// The byte behind a number that was passed over, where a value stood next.
+/// The byte after a number that was skipped, where a value stood next.
 #[inline(always)]
 fn number_end<H: Containers, W: Watch>(
     text: &[u8],
@@ -341,8 +342,8 @@ fn number_end<H: Containers, W: Watch>(
     }
 }
 
-/// Whether numbers without blanks between them stand in an array from here on, behind its first one: a reader of one number
-/// after another is faster there.
+/// Whether numbers without white space between them stand in an array from here on, after its first one: a reader of
+/// one number after another is faster there.
 #[inline(always)]
 fn goes_on(text: &[u8], end: usize, expect: Expect, holder: Holder) -> bool
     requires { end + 1 < length text.now }
@@ -354,7 +355,7 @@ fn goes_on(text: &[u8], end: usize, expect: Expect, holder: Holder) -> bool
     matches!(expect, Expect::Value) && (next == b'-' || (next >= b'0' && next <= b'9'))
 }
 
-/// A number, with the byte behind it, where a value stands next.
+/// A number, with the byte after it, where a value stands next.
 #[inline(always)]
 fn number<H: Containers, W: Watch>(
     text: &[u8],
@@ -467,7 +468,7 @@ fn array<H: Containers, W: Watch>(
     }
 }
 
-/// A value, or the beginning of a container, from the blanks in front of it on.
+/// A value, or the beginning of a container, from the white space in front of it on.
 #[inline(always)]
 fn value<H: Containers, W: Watch>(
     text: &[u8],
@@ -504,7 +505,7 @@ fn value<H: Containers, W: Watch>(
     }
 }
 
-/// The closing brackets and the comma behind a value.
+/// The closing brackets and the comma after a value.
 #[inline(always)]
 fn after<H: Containers, W: Watch>(
     text: &[u8],
@@ -550,7 +551,7 @@ fn is_after(expect: Expect) -> bool
     matches!(expect, Expect::After)
 }
 
-/// The closing brackets and the comma behind a value, where they stand next.
+/// The closing brackets and the comma after a value, where they stand next.
 #[inline(always)]
 fn ends<H: Containers, W: Watch>(
     turn: Turn,
@@ -605,7 +606,8 @@ fn round<H: Containers, W: Watch>(
     member(ended, text, at, last, to, ahead, watch)
 }
 
-/// Reads whole tokens from a place where a value stands next. Gives the offset behind them, and what may stand next there.
+/// Reads whole tokens from a place where a value stands next. Gives the offset after them, and what may stand next
+/// there.
 #[inline(never)]
 pub(crate) fn rounds<H: Containers, W: Watch>(
     text: &[u8],

@@ -1,4 +1,4 @@
-/// What may stand next (RFC 8259, sections 2 to 5).
+/// An expectation: what may stand next (RFC 8259, sections 2 to 5).
 #[derive(Clone, Copy, Debug, PartialEq, Eq)]
 pub enum Expect {
     /// A value.
@@ -9,8 +9,8 @@ pub enum Expect {
     ObjectFirst,
     /// A name.
     Name,
-    /// The colon behind a name.
+    /// The colon after a name.
     Colon,
-    /// What may follow a value: a comma, or the end of the container or of the text.
+    /// After a value: a comma, or the end of the container or of the text.
     After,
 }

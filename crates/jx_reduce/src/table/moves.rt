@@ -5,7 +5,7 @@ use crate::table::expect::Expect;
 use crate::table::holder::Holder;
 use jx_lex::MarkKind;
 
-/// Where a value may stand, the expectation that its first mark leads to.
+/// Where a value may stand, the expectation that its first token leads to.
 fn where_value(expect: Expect, then: Expect) -> Option<Expect>
     ensures { result ≡ where_value then expect }
 {
@@ -15,8 +15,8 @@ fn where_value(expect: Expect, then: Expect) -> Option<Expect>
     }
 }
 
-/// The expectation after a mark, by the expectation before it and the innermost open container; none where the mark is
-/// a fault (RFC 8259, sections 2 to 5).
+/// The expectation after a token, by the expectation before it and the innermost open container; none where the token
+/// is a fault (RFC 8259, sections 2 to 5).
 pub fn next(kind: MarkKind, expect: Expect, top: Holder) -> Option<Expect>
     ensures { result ≡ next_of kind expect top }
 {

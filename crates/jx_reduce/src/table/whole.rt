@@ -1,12 +1,12 @@
 use crate::table::expect::Expect;
 
-/// What a reading of marks comes to that begins with no open container.
+/// The outcome of a reading of tokens that begins with no open container.
 #[derive(Clone, Copy, Debug, PartialEq, Eq)]
 pub enum Whole {
-    /// No fault: the expectation behind the marks, and how many containers are open.
+    /// No fault: the expectation after the tokens, and how many containers are open.
     Went { expect: Expect, open: usize },
-    /// A mark at this offset that the table of moves does not allow.
+    /// A token at this offset that the table of moves does not allow.
     Stopped(usize),
-    /// A mark at this offset that opens one container more than the depth.
+    /// A token at this offset that opens one container more than the depth.
     TooDeep(usize),
 }

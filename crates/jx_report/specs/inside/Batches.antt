@@ -32,7 +32,7 @@ end_of (Names reader) = names.end_of reader
 end_of (Pointers reader) = finder.end_of reader.finder
 end_of (Elements sequence) = sequence.reader.start + sequence.reader.count
 
--- whatever was read before, the batch was read behind it
+-- whatever was read before, the batch was read after it
 pub record ReadsOn (batch : List ℕ) (old new : Reading) : Type 0 where
   pub reads : (task : Task) (settings : Settings) (text : List ℕ) → IsReadingOf task settings text old → IsReadingOf task settings (text ++ batch) new
 
@@ -49,7 +49,7 @@ pub record IsFilled {R : Type 0} (remaining : R → Option (List ℕ)) (has_fail
   pub unwritten : IfErr result (λ fault. fault ≢ Write)
   pub uncut : IfErr result (λ fault. fault ≢ Pieces)
 
--- a batch stands behind what was taken in, and both are all that was read
+-- a batch follows what was taken in, and both are all that was read
 pub record IsPending (IsTaken : List ℕ → Type 0) (unread left : Option (List ℕ)) (pending : List ℕ) : Type 0 where
   pub text : List ℕ
   pub taken : IsTaken text
@@ -59,7 +59,7 @@ pub record IsPending (IsTaken : List ℕ → Type 0) (unread left : Option (List
 
 -- ---- what was read on one thread
 
--- what the bytes come to that were read so far
+-- the state after the bytes that were read so far
 pub record IsTakenIn (task : Task) (settings : Settings) (unread left : Option (List ℕ)) (reading : Reading) : Type 0 where
   pub text : List ℕ
   pub read : Consumes unread left text

@@ -20,7 +20,7 @@ use Rattle.jx_words.specs.inside.ReadPointers.{AreReadPointers}
 abbrev pub any_names : Settings → Settings
 any_names settings = record { depth = settings.depth; mark = settings.mark; names = Any }
 
--- the task asks what strings that were read as these pointers come to in a text
+-- the task asks what strings that were read as these pointers lead to in a text
 pub record AreSought (task : Task) (pointers : List (List ℕ)) (unread : List (Option PointerFault)) : Type 0 where
   pub spelt : Vec (String Global) Global
   pub task_is : task ≡ At spelt
@@ -36,7 +36,7 @@ abbrev pub IsRefusalByNames : Settings → List ℕ → Option Refusal → Type 
 IsRefusalByNames settings text None = (settings.names ≡ Unique) → IsVerdictBy settings text Accepted
 IsRefusalByNames settings text (Some refusal) = IsVerdictBy settings text (Refused refusal)
 
--- what these strings spell as pointers is looked up in these bytes, and names are compared
+-- what these strings encode as pointers is looked up in these bytes, and names are compared
 pub record AreLookedUp (settings : Settings) (spelt : List (List ℕ)) (text : List ℕ) (reader : PointerReader) : Type 0 where
   pub pointers : List (List ℕ)
   pub read : AreReadPointers spelt pointers reader.unread.items

@@ -1,4 +1,4 @@
--- What a reply says: the output that is still to be written, and the exit.
+-- The contents of a reply: the output that is still to be written, and the status.
 use Rattle.std.specs.Prelude.{ℕ, List, ◌++◌, codes}
 use Rattle.jx_ends.specs.declared.exit.Exit.{Exit}
 use Rattle.jx_ends.specs.declared.exit.Exit.TheVariants.{Good}

@@ -11,11 +11,12 @@ use Rattle.jx_run.specs.SequenceRead.{AreRead}
 use Rattle.jx_answer.specs.Named.{IsNamed}
 use Rattle.jx_report.specs.declared.sequence_reader.SequenceReader.{SequenceReader}
 
--- where names have to be unique, the text ends with the bytes that are held of the last element, which stand where it begins
+-- where names have to be unique, the text ends with the bytes that are kept of the last element, which stand where it
+-- begins
 abbrev pub IsHeld : List ℕ → SequenceReader → Type 0
 IsHeld text sequence = sequence.settings.names ≡ Unique → (front : List ℕ) × (text ≡ front ++ sequence.last.items) × (length front ≡ sequence.reader.start)
 
--- each verdict that is kept is what the rule on names makes of one that was told, whatever stands behind the text
+-- each verdict that is kept is what the rule on names makes of one that was given, whatever follows the text
 abbrev pub AreKept : Settings → List ℕ → List JudgedElement → SequenceReader → Type 0
 AreKept settings text told sequence = (rest : List ℕ) → AllZip (IsNamed settings (text ++ rest)) told sequence.judged.items
 

@@ -8,7 +8,7 @@ use Rattle.jx_run.specs.declared.runs.joins.Pair.{Pair}
 use Rattle.jx_run.specs.declared.runs.transition.Transition.{Transition}
 use Rattle.jx_run.specs.OutcomeRun.{OutcomeRunValue, Entries, entries_at, GoesOn, IsFormWithin}
 
--- the marks of one go on with those of the other
+-- the tokens of one go on with those of the other
 pub record GoesOnWith (a b f : StructureValue) : Type 0 where
   pub joined : IsJoin a b f
   pub depth : f.depth ≡ a.depth
@@ -50,7 +50,7 @@ abbrev pub GoesThrough : OutcomeRunValue → OutcomeRunValue → LexState → Le
 GoesThrough left right s exit pair = (e : Entries) (f : StructureValue) → entries_at left s ≡ Some e → f.depth ≡ left.depth → IsMade left right pair f
     → GoesOn left.depth e right (record { exit = exit; marks = f })
 
--- the transition has what reading from this state comes to in the joined bytes
+-- the transition has what reading from this state leads to in the joined bytes
 pub record IsJoinedTransition (left right : OutcomeRunValue) (structures : List StructureValue) (s : LexState) (w : Transition) : Type 0 where
   pub form : StructureValue
   pub at : slice_get structures w.structure ≡ Some form

@@ -39,7 +39,7 @@ moved_exit by (exit.Fault at) = exit.Fault (offset_at by at)
 abbrev pub moved_transition : ℕ → Transition → Transition
 moved_transition by w = record { exit = moved_exit by w.exit; structure = w.structure }
 
--- the structure of the same marks so many bytes further on
+-- the structure of the same tokens so many bytes further on
 pub record IsMoved (by : ℕ) (old new : StructureValue) : Type 0 where
   pub depth : new.depth ≡ old.depth
   pub answers : (expect : Expect) (holders : List Holder) → length holders ≤ old.depth → answer new expect holders ≡ shifted by (answer old expect holders)

@@ -1,12 +1,12 @@
--- What joining two neighbouring runs of a JSON text sequence comes to.
+-- The join of two neighbouring runs of a JSON text sequence.
 use Rattle.std.specs.Prelude.{◌≡◌, ◌<◌, ℕ, List, [], ◌∷◌, ◌++◌}
 use Rattle.std.specs.List.{AllZip}
 use Rattle.jx_run.specs.Elements.{part, filled}
 use Rattle.jx_run.specs.Parted.{PartedValue, Meaning, IsParted, parted_span}
 use Rattle.jx_run.specs.Tree.{span}
 
--- the bytes of two neighbouring pieces are one part; what is kept of it, unless it is empty, comes behind that of the left
--- and before that of the right
+-- the bytes of two neighbouring parts are one part; what is kept of it, unless it is empty, comes after that of the
+-- left and before that of the right
 pub record IsClosed {P F : Type 0} (m : Meaning P F) (done : List F) (after before : P) (more joined : List F) : Type 0 where
   pub middle : List F
   pub joined_are : joined ≡ done ++ (middle ++ more)

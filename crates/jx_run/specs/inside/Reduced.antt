@@ -1,4 +1,4 @@
--- Structures of the marks of tracks.
+-- Structures of the tokens of tracks.
 use Rattle.std.specs.Prelude.{◌≡◌, ℕ, ◌≤◌, ◌<◌, ◌+◌, List, [], ◌∷◌, All, Option, Some, length, flat_map, slice_get}
 use Rattle.jx_maps.specs.declared.link.Link.TheVariants.{Ahead}
 use Rattle.jx_lex.specs.declared.alphabet.mark.Mark.{Mark}
@@ -14,7 +14,7 @@ use Rattle.jx_run.specs.declared.runs.reduce.Lone.{Lone}
 use Rattle.jx_run.specs.declared.runs.transition.Transition.{Transition}
 use Rattle.jx_run.specs.OutcomeRun.{IsFormWithin}
 
--- the structure of these marks, which keeps no offset but theirs
+-- the structure of these tokens, which keeps no offset but theirs
 pub record IsReduced (limit : ℕ) (marks : List Mark) (f : StructureValue) : Type 0 where
   pub depth : f.depth ≡ limit
   pub reads : IsOf marks f
@@ -24,13 +24,13 @@ pub record IsReduced (limit : ℕ) (marks : List Mark) (f : StructureValue) : Ty
 abbrev pub AreReduced : ℕ → List SegmentValue → List (Option StructureValue) → Type 0
 AreReduced limit ps slots = (n : ℕ) (f : StructureValue) → slice_get slots n ≡ Some (Some f) → IsReduced limit (marks_at ps n) f
 
--- the structure in this place is that of these marks
+-- the structure in this place is that of these tokens
 pub record IsAt (limit : ℕ) (marks : List Mark) (structures : List StructureValue) (i : ℕ) : Type 0 where
   pub form : StructureValue
   pub at : slice_get structures i ≡ Some form
   pub of : IsReduced limit marks form
 
--- what stands in this place is the structure of this mark alone
+-- what stands in this place is the structure of this token alone
 abbrev pub IsLoneIn : ℕ → List StructureValue → Lone → Type 0
 IsLoneIn limit structures lone = IsAt limit (lone.mark ∷ []) structures lone.number
 
@@ -46,7 +46,7 @@ AreTransitionsOf limit m fs [] (w ∷ ws) = ⊥
 AreTransitionsOf limit m fs (s ∷ ss) [] = ⊥
 AreTransitionsOf limit m fs (s ∷ ss) (w ∷ ws) = IsTransitionOf limit fs (track m s) w × AreTransitionsOf limit m fs ss ws
 
--- the path that begins with the segment of this number; there is none behind the last
+-- the path that begins with the segment of this number; there is none after the last
 abbrev pub path_at : List SegmentValue → ℕ → List ℕ
 path_at ps n = path_from 0 ps (Ahead n)
 
@@ -62,7 +62,7 @@ pub record ArePaths (limit : ℕ) (m : Map) (slots : List (Option StructureValue
   pub numbers_are : AreNumbered limit m.segments numbers structures
   pub within : All (IsFormWithin limit m.start m.end) structures
 
--- the marks of each track rise
+-- the tokens of each track rise
 abbrev pub AreRising : Map → Type 0
 AreRising m = (s : LexState) → RisingFrom 0 (track m s).marks
 

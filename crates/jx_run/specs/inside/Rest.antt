@@ -1,4 +1,4 @@
--- The rest of a piece, which is read only from the states in which transitions of its beginning end.
+-- The rest of a part, which is read only from the states in which transitions of its beginning end.
 use Rattle.std.specs.Prelude.{◌≡◌, ℕ, ◌+◌, ◌<◌, ◌≤◌, List, ◌∷◌, length, HoldsAt, Some, slice_get}
 use Rattle.jx_lex.specs.declared.alphabet.lex_exit.LexExit.TheVariants as exit
 use Rattle.jx_lex.specs.declared.alphabet.mark.Mark.{Mark}
@@ -38,7 +38,7 @@ abbrev pub AreReadTransitions : ℕ → ℕ → List ℕ → List Transition →
 AreReadTransitions limit start bytes reached structures transitions s = Reaches reached s
     → (w : Transition) × (slice_get transitions (ordinal s) ≡ Some w) × IsReadTransition limit start bytes structures s w
 
--- what a reducer has seen of the tokens of a scan; the ends are of no account, but that they begin with the depth, which
+-- what a reducer has seen of the tokens of a scan; the ends are ignored, but that they begin with the depth, which
 -- therefore stays
 pub record HasTaken (marks : List Mark) (ends : List ℕ) (reducer : ReducerValue) : Type 0 where
   pub reduced : HasReduced marks reducer

@@ -1,4 +1,4 @@
--- What a mark does, read off the table of moves in one word.
+-- The effect of a token, read off the table of moves in one word.
 use Rattle.std.specs.Prelude.{Option, Some, None}
 use Rattle.jx_lex.specs.declared.alphabet.mark.MarkKind.{MarkKind}
 use Rattle.jx_reduce.specs.declared.table.expect.Expect.{Expect}
@@ -8,7 +8,7 @@ use Rattle.jx_reduce.specs.declared.table.holder.Holder.TheVariants.{Array, Obje
 use Rattle.jx_reduce.specs.Table.{next_of, Change, same, added, removed, change_of, where_value, where_string, where_close_array, where_close_object, where_colon, where_comma}
 
 pub data Turn : Type 0 where
-  -- the mark is a fault
+  -- the token is a fault
   wrong : Turn
   -- the open containers stay
   on : Expect → Turn
@@ -26,7 +26,7 @@ turned removed (Some next) = leave next
 abbrev pub turn : MarkKind → Expect → Holder → Turn
 turn kind expect top = turned (change_of kind) (next_of kind expect top)
 
--- the turns at each kind of mark
+-- the turns at each kind of token
 abbrev pub at_scalar : Expect → Turn
 at_scalar expect = turned same (where_value After expect)
 

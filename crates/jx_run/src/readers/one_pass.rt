@@ -14,7 +14,7 @@ use jx_lex::{Depth, LexExit, LexState, Mark, TokenSink, pieces_are_read_in_turn,
 use jx_reduce::{KnownStack, Listener};
 use std::alloc::{AllocError, Global};
 
-/// The known stack, and a sink that is told the same. Where the stack meets a fault, both are of no more use.
+/// The known stack, and a sink that is given the same. Where the stack meets a fault, both are of no more use.
 #[derive(Drop)]
 struct Beside<K: Drop> {
     stack: KnownStack,
@@ -59,7 +59,7 @@ impl<K: TokenSink + Drop> TokenSink for Beside<K> {
 
 /// Says where a reading pauses.
 pub trait Pace {
-    /// The offset at which a reading that stands at `at`, before `end`, asks again. One that is not behind `at`, or past
+    /// The offset at which a reading that stands at `at`, before `end`, asks again. One that is not after `at`, or past
     /// `end`, counts as `end`.
     fn next_stop(&mut self, at: usize, end: usize) -> usize;
 }
@@ -74,7 +74,7 @@ impl Pace for NoPause {
     }
 }
 
-/// The stop where it is behind `at` and not past `end`, and otherwise `end`.
+/// The stop where it is after `at` and not past `end`, and otherwise `end`.
 fn stop_within(stop: usize, at: usize, end: usize) -> usize
     requires { at < end }
     ensures { (at < result) × (result ≤ end) }
@@ -121,9 +121,9 @@ pub struct OnePass<K: Drop> {
 }
 
 /// Reads the bytes from one offset to another as a whole text (RFC 8259, section 2), in one pass from their start.
-/// Gives its tokens to a sink that has seen no mark so far, and perhaps some ends. It has then seen all marks and ends
-/// of an accepted text too, with their offsets; soon behind the first fault it is told nothing more. Only want of memory
-/// is refused. It pauses where the pace says, which changes nothing of that.
+/// Gives its tokens to a sink that has seen no token so far, and perhaps some ends. It has then seen all token starts
+/// and ends of an accepted text too, with their offsets; soon after the first fault it is given nothing more. Fails
+/// only when out of memory. It pauses where the pace says, which changes nothing of that.
 pub fn read_into<K: TokenSink + Drop, P: Pace>(
     alloc: Global,
     text: &[u8],

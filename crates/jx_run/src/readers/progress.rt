@@ -33,7 +33,7 @@ pub enum Progress {
     Going(LexState),
     Stopped(usize),
     TooDeep(usize),
-    /// Memory was refused.
+    /// Out of memory.
     Failed,
 }
 
@@ -49,11 +49,11 @@ pub fn progress_at_start(mark: FrontMark) -> Progress
     }
 }
 
-/// A sink of tokens that knows all open containers of a text, and so what its marks have come to.
+/// A sink of tokens that knows all open containers of a text, and so what its tokens have led to.
 pub trait OpenStack: TokenSink {
     ghost known: { Self → Known };
 
-    /// What the marks have come to.
+    /// The outcome of the tokens so far.
     fn whole(&self) -> Whole
         ensures { result ≡ whole_of (known self.now).reading };
 
@@ -61,7 +61,7 @@ pub trait OpenStack: TokenSink {
 
     ghost is_seen: { (stack : Self) (marks : List Mark) (ends : List ℕ) → HasSeen marks ends (known stack) → Self.has_seen stack marks ends };
 
-    // It takes marks and ends in any order.
+    // It takes token starts and ends in any order.
     ghost is_free: { (stack : Self) (inside : Bool) → Self.awaits stack inside };
 }
 
@@ -80,7 +80,7 @@ impl OpenStack for KnownStack {
     ghost is_free = { λ _ _. tt };
 }
 
-/// Where a scan came to, over a slice that stands from `base` on.
+/// Where a scan over a slice that stands from `base` on has led.
 pub(crate) fn settled(base: usize, exit: Option<LexExit>, whole: Whole) -> Progress
     ensures value { result ≡ settled base exit whole }
     ensures cut { IsCut result }
@@ -107,8 +107,9 @@ fn passed<S: OpenStack>(stack: &mut S, slice: &[u8], to: usize) -> Result<usize,
     Ok(end)
 }
 
-/// Reads the bytes of a slice before `to` from between tokens on, and gives where that ends; none where the stack wanted no more
-/// before. Mostly the stack reads a short slice by itself, and no scan begins. Only want of memory is refused.
+/// Reads the bytes of a slice before `to` from between tokens on, and gives where that ends; none where the stack
+/// wanted no more before. Mostly the stack reads a short slice by itself, and no scan begins. Fails only when out of
+/// memory.
 #[inline(always)]
 pub fn read_between<S: OpenStack>(
     stack: &mut S,
@@ -178,7 +179,7 @@ fn read_all<S: OpenStack>(
     read_slice(stack, state, slice, slice.len(), base)
 }
 
-/// Reads a slice behind so many bytes of a byte order mark.
+/// Reads a slice after so many bytes of a byte order mark.
 #[cold]
 fn read_front<S: OpenStack>(
     stack: &mut S,
@@ -208,9 +209,9 @@ fn read_front<S: OpenStack>(
     Ok(Progress::Stopped(base + more))
 }
 
-/// Reads the bytes of a slice before `to` behind all bytes that were read; they stand from `base` on. Those behind are only
-/// room for a reader that looks at many bytes at a time: nothing depends on them. Behind a fault no byte is looked at. Only
-/// want of memory is refused, and then the stack is of no more use.
+/// Reads the bytes of a slice before `to` after all bytes that were read; they stand from `base` on. Those after are
+/// only room for a reader that looks at many bytes at a time: nothing depends on them. After a fault no byte is looked
+/// at. Fails only when out of memory, and then the stack is of no more use.
 #[inline]
 pub fn read_beginning<S: OpenStack>(
     stack: &mut S,
@@ -238,8 +239,8 @@ pub fn read_beginning<S: OpenStack>(
     }
 }
 
-/// Reads a slice behind all bytes that were read; it stands from `base` on. Behind a fault no byte is looked at. Only want
-/// of memory is refused, and then the stack is of no more use.
+/// Reads a slice after all bytes that were read; it stands from `base` on. After a fault no byte is looked at. Fails
+/// only when out of memory, and then the stack is of no more use.
 #[inline]
 pub fn read_on<S: OpenStack>(
     stack: &mut S,
@@ -258,8 +259,8 @@ pub fn read_on<S: OpenStack>(
     read_beginning(stack, progress, slice, slice.len(), base)
 }
 
-/// The verdict on the bytes that were read, as a whole text, by what their marks have come to. Where memory was refused
-/// there is no verdict, and this says that the text is cut short.
+/// The verdict on the bytes that were read, as a whole text, by what their tokens have led to. When out of memory there
+/// is no verdict, and this says that the text is cut short.
 pub fn verdict_at(progress: Progress, whole: Whole) -> Verdict
     ensures verdict { (settings : Settings) (start : ℕ) (bytes : List ℕ) (reading : Reading) → whole ≡ whole_of reading
         → outcome_at progress reading ≡ Some (read_by settings.mark settings.depth start bytes) → JudgedBy settings start bytes result }

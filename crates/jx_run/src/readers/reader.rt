@@ -26,9 +26,9 @@ use std::alloc::{AllocError, Global};
 use std::marker::Model;
 use std::mem;
 
-/// A text that is read from its start: fed by slices or by runs, one behind another, it has the verdict on all their bytes
-/// at any moment. It keeps no byte and no mark; up to 64 open containers take no memory. A byte order mark that the
-/// settings ignore may be cut anywhere between two slices.
+/// A text that is read from its start: fed by slices or by runs, one after another, it has the verdict on all their
+/// bytes at any moment. It keeps no byte and no token; up to 64 open containers take no memory. A byte order mark that
+/// the settings ignore may be cut anywhere between two slices.
 #[derive(Drop)]
 pub struct Reader {
     alloc: Global,
@@ -86,7 +86,7 @@ impl Reader {
         Ok(settled(base, Some(exit), whole))
     }
 
-    /// A reader of a text whose first byte has this offset. Its settings' names are of no account. Nothing is allocated.
+    /// A reader of a text whose first byte has this offset. Its settings' names are ignored. Nothing is allocated.
     pub fn new(alloc: Global, settings: &Settings, start: usize) -> Reader
         ensures settings { result.settings ≡ settings.now }
         ensures start { result.start ≡ start }
@@ -140,8 +140,8 @@ impl Reader {
         self.progress = progress_at_start(self.settings.mark);
     }
 
-    /// Reads the slice behind all bytes that it has read. Behind a fault no byte is looked at. Only want of memory is
-    /// refused, and from then on every slice and every run is.
+    /// Reads the slice after all bytes that it has read. After a fault no byte is looked at. Fails only when out of
+    /// memory, and from then on every slice and every run is.
     pub fn feed(&mut self, slice: &[u8]) -> Result<(), AllocError>
         requires { self.old.start + self.old.count + length slice.now < 2 ^ 64 }
         ensures settings { self.new.settings ≡ self.old.settings }
@@ -154,14 +154,14 @@ impl Reader {
         let base = self.start + self.count;
         let progress = self.progress;
         self.count += slice.len();
-        // Where memory is refused, what the stack holds is of no use.
+        // When out of memory, what the stack holds is of no use.
         self.progress = Progress::Failed;
         self.progress = read_on(&mut self.stack, progress, slice, base)?;
         Ok(())
     }
 
-    /// Reads the bytes of the slice before `to` as `feed` does. Those behind are only looked at: whoever has read on already,
-    /// as to the next line, lets the reader take the last tokens as fast as the others.
+    /// Reads the bytes of the slice before `to` as `feed` does. Those after are only looked at: whoever has read on
+    /// already, as to the next line, lets the reader take the last tokens as fast as the others.
     pub fn feed_beginning(&mut self, slice: &[u8], to: usize) -> Result<(), AllocError>
         requires within { to ≤ length slice.now }
         requires fits { self.old.start + self.old.count + to < 2 ^ 64 }
@@ -175,15 +175,15 @@ impl Reader {
         let base = self.start + self.count;
         let progress = self.progress;
         self.count += to;
-        // Where memory is refused, what the stack holds is of no use.
+        // When out of memory, what the stack holds is of no use.
         self.progress = Progress::Failed;
         self.progress = read_beginning(&mut self.stack, progress, slice, to, base)?;
         Ok(())
     }
 
-    /// Reads the slice as `feed` does, and tells a sink its tokens, with offsets counted from the slice's first byte. Bytes
-    /// of a byte order mark are told to nobody, and nothing is told of or behind a fault. Gives the sink back; where
-    /// memory is refused it is gone.
+    /// Reads the slice as `feed` does, and gives a sink its tokens, with offsets counted from the slice's first byte.
+    /// Bytes of a byte order mark are given to nobody, and nothing is given at or after a fault. Gives the sink back;
+    /// when out of memory it is gone.
     pub fn feed_into<K: TokenSink + Drop>(&mut self, sink: K, slice: &[u8]) -> Result<K, AllocError>
         requires fits { self.old.start + self.old.count + length slice.now < 2 ^ 64 }
         requires turn { (before : CameTo) → self.old.outcome ≡ Some before → AwaitsBehind (K.awaits sink) before }
@@ -202,7 +202,7 @@ impl Reader {
         let base = self.start + self.count;
         let progress = self.progress;
         self.count += slice.len();
-        // Where memory is refused, what the stack holds is of no use.
+        // When out of memory, what the stack holds is of no use.
         self.progress = Progress::Failed;
         let none = KnownStack::new(self.alloc, self.settings.depth);
         let stack = mem::replace(&mut self.stack, none);
@@ -212,7 +212,7 @@ impl Reader {
         Ok(told.sink)
     }
 
-    /// Whether a fault was met. No byte behind it changes the verdict.
+    /// Whether a fault was met. No byte after it changes the verdict.
     pub fn is_done(&self) -> bool
         ensures { result ≡ is_fault self.now.outcome }
     {
@@ -226,9 +226,9 @@ impl Reader {
         matches!(self.progress, Progress::Front(_))
     }
 
-    /// Reads the bytes of a run behind all bytes that it has read, where no byte order mark may stand among them. The run is
-    /// over a text of its own, and its offsets are moved to where its bytes stand here. Only want of memory is refused, and
-    /// from then on every slice and every run is.
+    /// Reads the bytes of a run after all bytes that it has read, where no byte order mark may stand among them. The
+    /// run is over a text of its own, and its offsets are moved to where its bytes stand here. Fails only when out of
+    /// memory, and from then on every slice and every run is.
     pub fn follow(&mut self, run: &OutcomeRun) -> Result<(), AllocError>
         requires behind { IsInFront self.old → ⊥ }
         requires depth { run.now.depth ≡ self.old.settings.depth }
@@ -257,7 +257,7 @@ impl Reader {
         Ok(())
     }
 
-    /// The verdict on the bytes that it has read, as a whole text, whatever names its objects have. Where memory was refused
+    /// The verdict on the bytes that it has read, as a whole text, whatever names its objects have. When out of memory
     /// there is no verdict, and this says that the text is cut short.
     pub fn verdict(&self) -> Verdict
         ensures verdict { (bytes : List ℕ) → HasRead bytes self.now → JudgedBy self.now.settings self.now.start bytes result }

@@ -25,7 +25,7 @@ impl Model for Started {
 }
 
 impl Started {
-    /// The reading of these bytes with this depth, which gave these marks and ends and this verdict.
+    /// The reading of these bytes with this depth, which gave these token starts and ends and this verdict.
     pub(crate) fn new(
         span: Span,
         depth: Depth,
@@ -65,7 +65,7 @@ impl Started {
         self.verdict
     }
 
-    /// The marks up to the first fault of the lexical machine, in order.
+    /// The tokens up to the first fault of the lexical machine, in order.
     pub fn marks(&self) -> &[Mark]
         ensures marks { result.now ≡ self.now.marks }
     {

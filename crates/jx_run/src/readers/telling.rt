@@ -1,4 +1,4 @@
-// A text that is read from its start, slice by slice, while a sink is told its tokens.
+// A text that is read from its start, slice by slice, while a sink is given its tokens.
 ghost use Rattle.std.specs.Prelude.{◌≡◌, ◌+◌, ◌<◌, ◌≤◌, ◌^◌, ◌++◌, [], ℕ, List, Some, drop, false, length, slice_range, IfOk, IsErr};
 ghost use Rattle.jx_lex.specs.declared.alphabet.mark.Mark.{Mark};
 ghost use Rattle.jx_lex.specs.Lex.{lex};
@@ -23,7 +23,7 @@ use jx_reduce::{KnownStack, Listener};
 use std::alloc::AllocError;
 use std::marker::{Brand, PhantomData};
 
-/// What a sink had seen before a slice, and the known stack then. A call picks both.
+/// The tokens that a sink had seen before a slice, and the known stack then. A call picks both.
 pub trait Earlier {
     ghost use Rattle.jx_lex.specs.Seen.{Seen};
     ghost use Rattle.jx_reduce.specs.KnownStack.{Known};
@@ -41,7 +41,7 @@ impl Earlier for Brand {
     ghost stack = { record { depth = 0; reading = start } };
 }
 
-/// The known stack, and a sink that is told what the stack goes past.
+/// The known stack, and a sink that is given what the stack goes past.
 #[derive(Drop)]
 struct Past<K: Drop, E> {
     stack: KnownStack,
@@ -54,7 +54,7 @@ impl<K: TokenSink + Drop, E: Earlier> TokenSink for Past<K, E> {
 
     ghost has_seen = { λ both marks ends. HasSeenPast E.seen E.stack (K.has_seen both.other.sink) marks ends both.stack };
 
-    // Behind a fault the sink is told nothing more, and so awaits nothing.
+    // After a fault the sink is given nothing more, and so awaits nothing.
     ghost awaits = { λ both inside. (IsFault both.stack.reading → ⊥) → K.awaits both.other.sink inside };
 
     #[inline(always)]
@@ -95,7 +95,7 @@ impl<K: TokenSink + Drop, E: Earlier> TokenSink for Past<K, E> {
     }
 }
 
-/// How far a reading came, its stack, and the sink that was told its tokens.
+/// How far a reading came, its stack, and the sink that was given its tokens.
 #[derive(Drop)]
 pub struct Told<K: Drop> {
     pub progress: Progress,
@@ -117,7 +117,7 @@ pub fn slices_are_told_in_turn()
     pieces_are_read_in_turn();
 }
 
-/// The tokens of an accepted text are those of the bytes behind what stands in front of it.
+/// The tokens of an accepted text are those of the bytes after what stands in front of it.
 pub fn accepted_texts_stand_behind_fronts()
     ensures { (settings : Settings) (bytes : List ℕ) → JudgedBy settings 0 bytes Accepted → IsAcceptedFrom settings bytes }
 {
@@ -125,7 +125,7 @@ pub fn accepted_texts_stand_behind_fronts()
     verdict_by_settings_is_one();
 }
 
-/// Reads a slice that stands from `base` on, from an offset in it to its end, and tells its tokens.
+/// Reads a slice that stands from `base` on, from an offset in it to its end, and gives its tokens to the sink.
 fn tell_slice<K: TokenSink + Drop, E: Earlier>(
     stack: KnownStack,
     sink: K,
@@ -164,7 +164,7 @@ fn tell_slice<K: TokenSink + Drop, E: Earlier>(
     })
 }
 
-/// Reads a slice behind so many bytes of a byte order mark, and tells its tokens.
+/// Reads a slice after so many bytes of a byte order mark, and gives its tokens to the sink.
 #[cold]
 fn tell_front<K: TokenSink + Drop>(
     stack: KnownStack,
@@ -210,8 +210,8 @@ fn tell_front<K: TokenSink + Drop>(
     })
 }
 
-/// Reads a slice behind all bytes that were read, as `read_on` does, and tells its tokens, with offsets counted from its
-/// first byte. Nothing is told of or behind a fault.
+/// Reads a slice after all bytes that were read, as `read_on` does, and gives its tokens to the sink, with offsets
+/// counted from its first byte. Nothing is given at or after a fault.
 pub(crate) fn tell_on<K: TokenSink + Drop>(
     stack: KnownStack,
     sink: K,

@@ -16,9 +16,9 @@ use jx_summary::Summary;
 use std::alloc::{AllocError, Global};
 use std::marker::Model;
 
-/// What reading part of a JSON text sequence gives (RFC 7464), where the verdicts on its elements are wanted and no
-/// rows. Keeps the span and the verdict of each element that ends in it. One reader reads elements that lie in one
-/// piece from their starts, one after another.
+/// The partial result of part of a JSON text sequence (RFC 7464), where the verdicts on its elements are wanted and no
+/// rows. Keeps the span and the verdict of each element that ends in it. One reader reads elements that lie in one part
+/// from their starts, one after another.
 #[derive(Drop)]
 pub struct ElementsRun {
     parted: Parted<PartRun>,
@@ -55,7 +55,7 @@ impl ElementsRun {
     }
 
     /// The elements of a part of a sequence, in order. The part begins with a record separator, was read as a sequence
-    /// of its own, and stands behind so many bytes. Each element is moved to where it stands.
+    /// of its own, and is after so many bytes. Each element is moved to where it stands.
     pub fn into_elements_behind(self, by: usize) -> Result<Vec<JudgedElement>, AllocError>
         requires whole { (elements_span self).start ≡ 0 }
         ensures elements { (bytes : List ℕ) → IsElementsRun bytes self → StartsWithSeparator bytes → by + length bytes < 2 ^ 64

@@ -1,4 +1,4 @@
-// Runs over parts of a JSON text that keep no marks.
+// Runs over parts of a JSON text that keep no tokens.
 ghost use Rattle.std.specs.Prelude.{◌≡◌, ◌<◌, ◌≤◌, ◌+◌, ◌-◌, ◌^◌, ◌↔◌, ℕ, All, List, [], ◌++◌, length, Some, slice_get, slice_range, IsTrue, IfOk, IfErr, OnOk, OnErr};
 ghost use Rattle.std.specs.Option.{SomeIff};
 ghost use Rattle.jx_maps.specs.Map.{IsOf};
@@ -33,9 +33,10 @@ use std::mem;
 /// So many structures has a run at most.
 const MOST: usize = 32;
 
-/// What reading part of a text comes to, without its marks, from each of the 32 lexical states and six expectations. It
-/// holds for every list of open containers within the depth. It keeps at most 32 structures, whose size the depth
-/// bounds, whatever the length of the text. While it is made from bytes, the marks of their beginning are held too.
+/// The partial result of part of a text, without its tokens: the outcome of reading it from each of the 32 lexical
+/// states and six expectations. It holds for every list of open containers within the depth. It keeps at most 32
+/// structures, whose size the depth bounds, whatever the length of the text. While it is made from bytes, it keeps the
+/// tokens of their beginning too.
 #[derive(Drop)]
 pub struct OutcomeRun {
     depth: Depth,
@@ -70,7 +71,7 @@ fn ends_text(state: LexState, expect: Expect, containers: usize) -> bool
         )
 }
 
-/// The verdict on a whole text, from where its track ends and from what its marks come to.
+/// The verdict on a whole text, from where its track ends and from what its tokens lead to.
 pub fn verdict_from(exit: LexExit, whole: Whole) -> Verdict
     ensures { result ≡ verdict_from exit whole }
 {
@@ -89,14 +90,14 @@ pub fn verdict_from(exit: LexExit, whole: Whole) -> Verdict
     }
 }
 
-/// The verdict on a whole text, from where its track ends and from the structure of its marks.
+/// The verdict on a whole text, from where its track ends and from the structure of its tokens.
 fn verdict_of(exit: LexExit, structure: &Structure) -> Verdict
     ensures { result ≡ verdict_from exit (whole_of (answer structure.now Value [])) }
 {
     verdict_from(exit, structure.whole(Expect::Value))
 }
 
-/// The structures of the same marks so many bytes further on. It takes no memory.
+/// The structures of the same tokens so many bytes further on. It takes no memory.
 fn structures_shifted(by: usize, depth: Depth, mut structures: Vec<Structure>) -> Vec<Structure>
     requires fits { All (SpansIn 0 (2 ^ 64 - by)) structures.items }
     ensures long { length result.items ≡ length structures.items }
@@ -137,7 +138,7 @@ fn are_within(structures: &[Structure], depth: Depth, end: usize) -> bool
         .all(|structure| is_within(structure, depth, end))
 }
 
-/// Puts structures behind others. Where memory is refused the others stay as they were.
+/// Puts structures after others. When out of memory the others stay as they were.
 fn put_behind(structures: &mut Vec<Structure>, more: Vec<Structure>) -> Result<(), AllocError>
     ensures ok { OnOk result (structures.new.items ≡ structures.old.items ++ more.items) }
     ensures err { OnErr result (structures.new.items ≡ structures.old.items) }
@@ -147,7 +148,7 @@ fn put_behind(structures: &mut Vec<Structure>, more: Vec<Structure>) -> Result<(
 }
 
 impl OutcomeRun {
-    /// What reading the bytes of a chunk map comes to. Only want of memory is refused.
+    /// The run over the bytes of a chunk map. Fails only when out of memory.
     pub(crate) fn of_map(
         alloc: Global,
         map: &ChunkMap,
@@ -168,8 +169,8 @@ impl OutcomeRun {
         })
     }
 
-    /// What reading a beginning of a part of a text comes to, so long that its transitions end in two states at most. The map that
-    /// it is made of is let go.
+    /// The run over a beginning of a part of a text, so long that its transitions end in two states at most. The map
+    /// that it is made of is freed.
     fn of_beginning(
         alloc: Global,
         text: &[u8],
@@ -187,7 +188,7 @@ impl OutcomeRun {
         OutcomeRun::of_map(alloc, &map, depth)
     }
 
-    /// What reading on up to `end` comes to, from the states in which transitions of this run end.
+    /// The run over the bytes from here up to `end`, from the states in which transitions of this run end.
     fn rest(&self, text: &[u8], end: usize) -> Result<OutcomeRun, AllocError>
         requires { (self.now.end ≤ end) × (end ≤ length text.now) }
         ensures start { IfOk result (λ r. r.start ≡ self.now.end) }
@@ -230,8 +231,8 @@ impl OutcomeRun {
         self.transition_from(state).exit
     }
 
-    /// What the marks come to from a state and an expectation. With where reading from that state ends, it tells what the
-    /// bytes come to over open containers, as many as the depth at most.
+    /// The outcome of the tokens from a state and an expectation. With where reading from that state ends, it gives the
+    /// outcome of the bytes over open containers, as many as the depth at most.
     pub fn entry(&self, state: LexState, expect: Expect) -> EntryView<'_>
         ensures depth { result.structure.depth ≡ self.now.depth }
         ensures all { length self.now.transitions ≡ 32 }
@@ -282,7 +283,8 @@ impl OutcomeRun {
         }
     }
 
-    /// The same run with the structures to which its transitions lead, and no spare room. It fails only for want of memory.
+    /// The same run with the structures to which its transitions lead, and no spare room. It fails only when out of
+    /// memory.
     pub fn trimmed(&self) -> Result<OutcomeRun, AllocError>
         ensures start { IfOk result (λ r. r.start ≡ self.now.start) }
         ensures end { IfOk result (λ r. r.end ≡ self.now.end) }
@@ -436,9 +438,9 @@ impl OutcomeRun {
         })
     }
 
-    /// The run over the joined bytes. The structures of this run stay where they are, and those that go on are put behind
-    /// them: so what ended on the left costs nothing. Where they would be too many, each is made anew. Where memory is
-    /// refused this run is handed back as it was.
+    /// The run over the joined bytes. The structures of this run stay where they are, and those that go on are put
+    /// after them: so what ended on the left costs nothing. Where they would be too many, each is made anew. When out
+    /// of memory this run is handed back as it was.
     pub(crate) fn joined_onto(self, right: &OutcomeRun) -> Result<OutcomeRun, OutcomeRun>
         requires neighbours { self.end ≡ right.now.start }
         requires depth { self.depth ≡ right.now.depth }
@@ -462,7 +464,7 @@ impl OutcomeRun {
         }
     }
 
-    /// The run over the joined bytes, that has these transitions, and these structures behind its own.
+    /// The run over the joined bytes, that has these transitions, and these structures after its own.
     fn added(
         self,
         right: &OutcomeRun,
@@ -491,7 +493,7 @@ impl OutcomeRun {
         }
     }
 
-    /// The transitions of the joined bytes, where the structures of this run keep their numbers, and those behind them.
+    /// The transitions of the joined bytes, where the structures of this run keep their numbers, and those after them.
     fn further(&self, right: &OutcomeRun) -> Result<(Vec<Transition>, Vec<Structure>), AllocError>
         requires neighbours { self.now.end ≡ right.now.start }
         requires depth { self.now.depth ≡ right.now.depth }
@@ -523,8 +525,8 @@ impl OutcomeRun {
         self.structures.len()
     }
 
-    /// The number of the structure of a pair, among those of this run and of the joins behind them. That of the left alone
-    /// is there; another is made unless it was before.
+    /// The number of the structure of a pair, among those of this run and of the joins after them. That of the left
+    /// alone is there; another is made unless it was before.
     fn index_of_pair(
         &self,
         right: &OutcomeRun,

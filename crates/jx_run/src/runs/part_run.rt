@@ -15,7 +15,7 @@ use jx_summary::Summary;
 use std::alloc::{AllocError, Global};
 use std::marker::Model;
 
-/// What reading a part of an element gives, or all of it. No byte of it is a record separator.
+/// The partial result of a part of an element, or of all of it. No byte of it is a record separator.
 #[derive(Drop)]
 pub(crate) struct PartRun {
     outcomes: OutcomeRun,
@@ -64,7 +64,7 @@ impl PartRun {
         }
     }
 
-    /// The element that has these bytes and stands behind a record separator. It takes no memory.
+    /// The element that has these bytes and follows a record separator. It takes no memory.
     pub(crate) fn judged(&self) -> JudgedElement
         ensures { (bytes : List ℕ) → 0 < self.now.outcomes.start → IsPartRun bytes self.now
             → IsJudgedElement self.now.outcomes.depth (part self.now.outcomes.start bytes) result }
@@ -75,7 +75,7 @@ impl PartRun {
         }
     }
 
-    /// The element that has the joined bytes and stands behind a record separator; neither part changes.
+    /// The element that has the joined bytes and follows a record separator; neither part changes.
     pub(crate) fn judged_with(&self, right: &PartRun) -> Result<JudgedElement, AllocError>
         requires neighbours { self.now.outcomes.end ≡ right.now.outcomes.start }
         requires depth { self.now.outcomes.depth ≡ right.now.outcomes.depth }

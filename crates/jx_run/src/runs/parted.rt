@@ -10,8 +10,8 @@ use jx_summary::Summary;
 use std::alloc::{AllocError, Global};
 use std::marker::Model;
 
-/// What stands behind the first record separator: what is kept of each element that a further separator ends, and the piece
-/// behind the last separator.
+/// The result after the first record separator: what is kept of each element that a further separator ends, and the
+/// part after the last separator.
 #[derive(Drop)]
 pub(crate) struct Marked<P: Piece> {
     pub(crate) done: Vec<P::Finished>,
@@ -26,8 +26,8 @@ impl<P: Piece> Model for Marked<P> {
     ghost view = { λ m. record { done = m.done.items; after = m.after } };
 }
 
-/// What reading part of a JSON text sequence gives (RFC 7464): the piece before the first record separator, and what stands
-/// behind it. The separators are seen, whatever stands around them: a JSON text holds no byte 1E.
+/// The partial result of part of a JSON text sequence (RFC 7464): the part before the first record separator, and the
+/// rest. The separators are seen, whatever is around them: a JSON text has no byte 1E.
 #[derive(Drop)]
 pub(crate) struct Parted<P: Piece> {
     pub(crate) before: P,
@@ -46,8 +46,8 @@ impl<P: Piece> Model for Parted<P> {
     ghost invariant = { λ r. P.depth (last_piece r.before r.marked) ≡ P.depth r.before };
 }
 
-/// Puts behind what the left keeps what is kept of its last bytes with the first ones of the right, unless these are none,
-/// and what the right keeps.
+/// Puts after what the left keeps what is kept of its last bytes with the first ones of the right, unless these are
+/// empty, and what the right keeps.
 fn close<P: Piece>(
     done: &mut Vec<P::Finished>,
     after: &P,

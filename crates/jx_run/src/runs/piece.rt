@@ -6,26 +6,26 @@ use jx_lex::Depth;
 use jx_summary::Summary;
 use std::alloc::{AllocError, Global};
 
-/// What reading bytes of a JSON text sequence gives in which no record separator stands: an element, or a part of one.
+/// The partial result of bytes of a JSON text sequence without a record separator: an element, or a part of one.
 pub(crate) trait Piece: Summary {
     ghost use Rattle.std.specs.Prelude.{◌≡◌, ◌+◌, ℕ, List, length};
     ghost use Rattle.jx_run.specs.Elements.{Part};
 
-    /// What is kept of an element that stands between two separators.
+    /// The result that is kept of an element between two separators.
     type Finished: Drop;
 
     /// It is what is kept of this element, read with this depth.
     ghost is_finished: { ℕ → Part → Self.Finished → Type 0 };
 
-    /// What is kept of the element that has the joined bytes and stands behind a separator; neither piece changes.
+    /// The result that is kept of the element that has the joined bytes and follows a separator; neither part changes.
     fn finished_with(&self, right: &Self) -> Result<Self::Finished, AllocError>
         requires neighbours { (Self.span self.now).end ≡ (Self.span right.now).start }
         requires depth { Self.depth self.now ≡ Self.depth right.now }
         ensures { (xs ys : List ℕ) → 0 < (Self.span self.now).start → Self.is_of self.now xs → Self.is_of right.now ys
             → IfOk result (is_finished (Self.depth self.now) (part (Self.span self.now).start (xs ++ ys))) };
 
-    /// Reads from behind a separator up to `end`: what is kept of each element that a further separator ends, and the piece
-    /// behind the last separator.
+    /// Reads from after a separator up to `end`: what is kept of each element that a further separator ends, and the
+    /// part after the last separator.
     fn behind(
         alloc: Global,
         text: &[u8],

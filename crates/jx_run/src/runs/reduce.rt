@@ -1,4 +1,5 @@
-// The transitions of a chunk map and their structures. The marks of each segment are reduced once, and those of each path.
+// The transitions of a chunk map and their structures. The tokens of each segment are reduced once, and those of each
+// path.
 ghost use Rattle.std.specs.Prelude.{◌≡◌, ◌<◌, ◌≤◌, ◌+◌, ◌++◌, [], ◌∷◌, List, All, None, Some, length, flat_map, IfOk, IfSome, IsSomeAnd, IsTrue, OnOk};
 ghost use Rattle.jx_maps.specs.Map.{track};
 ghost use Rattle.jx_lex.specs.Ordinal.{all_states};
@@ -15,7 +16,7 @@ use jx_maps::{ChunkMap, Path, Segment, TrackView};
 use jx_reduce::{Structure, structures_lie_in_spans};
 use std::alloc::{AllocError, Global};
 
-/// Reduces the marks of a segment, unless that was done before.
+/// Reduces the tokens of a segment, unless that was done before.
 fn fill(
     alloc: Global,
     segment: &Segment,
@@ -34,7 +35,7 @@ fn fill(
     Ok(())
 }
 
-/// Goes on with the marks of a segment.
+/// Goes on with the tokens of a segment.
 fn take_in(
     alloc: Global,
     reduced: Structure,
@@ -58,7 +59,7 @@ fn take_in(
     }
 }
 
-/// The structure of the marks of the segments on the path.
+/// The structure of the tokens of the segments on the path.
 fn reduce_path(
     alloc: Global,
     segments: &[Segment],
@@ -93,14 +94,14 @@ fn none<T: Drop>(alloc: Global, count: usize) -> Result<Vec<Option<T>>, AllocErr
     Ok(places)
 }
 
-/// Whether a track has no marks.
+/// Whether a track has no tokens.
 fn is_bare(track: &TrackView<'_>) -> bool
     ensures { IsTrue result → (view_track track.now).marks ≡ [] }
 {
     track.marks().next().is_none()
 }
 
-/// The number with which the path of a track begins, or the count of the segments where it has none, or no marks.
+/// The number with which the path of a track begins, or the count of the segments where it has none, or no tokens.
 fn first_of(track: &TrackView<'_>, count: usize) -> usize
     requires { count ≡ length track.now.segments }
     ensures low { result ≤ count }
@@ -116,7 +117,7 @@ fn first_of(track: &TrackView<'_>, count: usize) -> usize
     }
 }
 
-/// The mark of a track that has no other.
+/// The token of a track that has no other.
 fn lone_mark(track: &TrackView<'_>) -> Option<Mark>
     ensures { IfSome result (λ mark. (view_track track.now).marks ≡ mark ∷ []) }
 {
@@ -128,7 +129,7 @@ fn lone_mark(track: &TrackView<'_>) -> Option<Mark>
     }
 }
 
-/// The structure of the marks of the track from a state. That of a mark alone, or of none, is made of no segment's.
+/// The structure of the tokens of the track from a state. That of a token alone, or of none, is made of no segment's.
 fn structure_from(
     alloc: Global,
     map: &ChunkMap,
@@ -152,14 +153,14 @@ fn structure_from(
     reduce_path(alloc, map.segments(), slots, track.path(), depth)
 }
 
-/// A mark that is all that a track has, and the number of its structure.
+/// A token that is all that a track has, and the number of its structure.
 #[derive(Clone, Copy)]
 struct Lone {
     mark: Mark,
     number: usize,
 }
 
-/// The number of the structure of this mark alone, if it is the known one.
+/// The number of the structure of this token alone, if it is the known one.
 fn number_of_lone(known: Option<Lone>, mark: Option<Mark>) -> Option<usize>
     ensures { IfSome result (λ number. (m : Mark) × (mark ≡ Some m) × (known ≡ Some (record { mark = m; number = number }))) }
 {
@@ -172,7 +173,7 @@ fn number_of_lone(known: Option<Lone>, mark: Option<Mark>) -> Option<usize>
 }
 
 /// The structures of paths. A path is known by the segment with which it begins, so states that take one path share its
-/// structure. So do those whose tracks have no marks, and those whose tracks have one mark, and the same.
+/// structure. So do those whose tracks have no tokens, and those whose tracks have one token, and the same.
 #[derive(Drop)]
 struct Paths {
     // those of the segments

@@ -1,4 +1,4 @@
-// The rest of a piece, from the states that are left behind its beginning.
+// The rest of a part, from the states that are left after its beginning.
 ghost use Rattle.std.specs.Prelude.{◌≡◌, ◌≢◌, ◌≤◌, ◌<◌, ◌+◌, All, max, length, slice_range, IfOk, IsTrue, OnOk};
 ghost use Rattle.jx_lex.specs.declared.alphabet.lex_exit.LexExit.TheVariants as exit;
 ghost use Rattle.jx_lex.specs.declared.alphabet.state.LexState.{LexState};
@@ -42,7 +42,7 @@ impl TokenSink for KeptMarks {
     }
 }
 
-/// Where reading the bytes from a state ends, and the structure of their marks.
+/// Where reading the bytes from a state ends, and the structure of their tokens.
 fn read_from(
     alloc: Global,
     text: &[u8],
@@ -60,8 +60,8 @@ fn read_from(
     };
     let exit = scan(&mut kept, state, text, from, to)?;
     let marks = kept.reducer.into_structure()?;
-    // Where the reducer wanted no more, its marks come to a fault from everywhere, and it does not matter where the reading
-    // ends.
+    // Where the reducer wanted no more, its tokens lead to a fault from everywhere, and it does not matter where the
+    // reading ends.
     Ok((exit.unwrap_or(LexExit::Fault(from)), marks))
 }
 
@@ -74,7 +74,7 @@ fn avoid(transitions: &[Transition], state: LexState) -> bool
         .all(|transition| transition.exit != LexExit::State(state))
 }
 
-/// The transition from a state, whose structure is put behind the others.
+/// The transition from a state, whose structure is put after the others.
 // Apart, since a structure is large: the states that are not read then cost nothing.
 #[inline(never)]
 fn read_transition(
@@ -146,8 +146,9 @@ fn fill(
     Ok(())
 }
 
-/// The transitions through the rest of a piece from all states, in order, and their structures. The bytes are read only from the
-/// states in which transitions of the beginning end. Nothing leads to the others, and what their transitions have is of no account.
+/// The transitions through the rest of a part from all states, in order, and their structures. The bytes are read only
+/// from the states in which transitions of the beginning end. Nothing leads to the others, and what their transitions
+/// have is ignored.
 pub(crate) fn rest_transitions(
     alloc: Global,
     reached: &[Transition],

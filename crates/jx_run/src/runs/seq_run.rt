@@ -12,8 +12,8 @@ use jx_summary::Summary;
 use std::alloc::{AllocError, Global};
 use std::marker::Model;
 
-/// What reading part of a JSON text sequence gives (RFC 7464). The record separators in it are seen, whatever stands around
-/// them: a JSON text holds no byte 1E.
+/// The partial result of part of a JSON text sequence (RFC 7464). The record separators in it are seen, whatever is
+/// around them: a JSON text has no byte 1E.
 #[derive(Drop)]
 pub struct SeqRun {
     parted: Parted<TextRun>,

@@ -23,8 +23,8 @@ use std::marker::Model;
 
 mod across;
 
-/// What reading part of a text gives from each of the 32 lexical states and six expectations. It holds for every list
-/// of open containers within the depth.
+/// The partial result ("run") of part of a text: the outcome of reading it from each of the 32 lexical states and six
+/// expectations. It holds for every list of open containers within the depth.
 #[derive(Drop)]
 pub struct TextRun {
     map: ChunkMap,
@@ -51,7 +51,7 @@ impl TextRun {
         self.outcomes.verdict()
     }
 
-    /// The reading of the bytes from the start of a text. Only want of memory is refused.
+    /// The reading of the bytes from the start of a text. Fails only when out of memory.
     pub fn started(&self) -> Result<Started, AllocError>
         ensures started { (bytes : List ℕ) → IsTextRun bytes self.now → IfOk result (λ s. IsStarted bytes s) }
         ensures span { IfOk result (λ s. s.span ≡ text_span self.now) }
@@ -61,7 +61,7 @@ impl TextRun {
         Ok(Started::new(self.map.span(), self.depth(), marks, ends, self.verdict()))
     }
 
-    /// The marks of the reading from the start of a text, in order, read where they lie.
+    /// The tokens of the reading from the start of a text, in order, read where they lie.
     pub fn marks(&self) -> Marks<'_>
         ensures all { result ≡ (track self.now.map Gap).marks }
     {
@@ -83,8 +83,8 @@ impl TextRun {
         self.outcomes.exit(state)
     }
 
-    /// What the marks come to from a state and an expectation. With where reading from that state ends, it tells what the
-    /// bytes come to over open containers, as many as the depth at most.
+    /// The outcome of the tokens from a state and an expectation. With where reading from that state ends, it gives the
+    /// outcome of the bytes over open containers, as many as the depth at most.
     pub fn entry(&self, state: LexState, expect: Expect) -> EntryView<'_>
         ensures depth { result.structure.depth ≡ self.now.depth }
         ensures all { length self.now.transitions ≡ 32 }
@@ -96,7 +96,7 @@ impl TextRun {
         self.outcomes.entry(state, expect)
     }
 
-    /// The marks and the ends of the track from a state.
+    /// The token starts and the ends of the track from a state.
     fn copy_track(&self, state: LexState) -> Result<(Vec<Mark>, Vec<usize>), AllocError>
         ensures marks { IfOk result (λ r. r.0.items ≡ (track self.now.map state).marks) }
         ensures ends { IfOk result (λ r. r.1.items ≡ (track self.now.map state).ends) }

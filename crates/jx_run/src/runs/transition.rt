@@ -1,10 +1,10 @@
-// Where reading part of a text comes to from the lexical states.
+// Where reading part of a text leads from the lexical states.
 ghost use Rattle.std.specs.Prelude.{◌≡◌, map};
 ghost use Rattle.jx_run.specs.inside.Moved.{moved_transition};
 
 use jx_lex::LexExit;
 
-/// What reading comes to from one lexical state: where it ends, and the number of the structure that its marks have.
+/// The transition from one lexical state: where reading ends, and the number of the structure that its tokens have.
 #[derive(Clone, Copy)]
 pub struct Transition {
     pub exit: LexExit,

@@ -1,4 +1,4 @@
-// What elements of a JSON text sequence come to.
+// Verdicts on elements of a JSON text sequence.
 ghost use Rattle.std.specs.Prelude.{◌≡◌, map};
 ghost use Rattle.jx_run.specs.inside.Moved.{moved, moved_refusal, moved_verdict};
 ghost use Rattle.jx_run.specs.SequenceRead.{ended_there};
@@ -7,21 +7,21 @@ use crate::sequences::open_end::told;
 use crate::texts::verdict::{Refusal, Verdict};
 use jx_lex::Span;
 
-/// What an element of a JSON text sequence comes to.
+/// The verdict on an element of a JSON text sequence.
 #[derive(Clone, Copy, Debug, PartialEq, Eq)]
 pub enum ElementVerdict {
     /// It is a text within the depth.
     Accepted,
-    /// It is no text within the depth. Offsets are in the whole input.
+    /// It is not a text within the depth. Offsets are in the whole input.
     Refused(Refusal),
-    /// Its value is a number, `true`, `false` or `null` with nothing behind it, so it may be the beginning of a longer one
-    /// that was cut (RFC 7464, section 2.4).
+    /// Its value is a number, `true`, `false` or `null` with nothing after it, so it may be the beginning of a longer
+    /// one that was cut (RFC 7464, section 2.4).
     MayBeCut,
-    /// It stands before the first record separator.
+    /// It is before the first record separator.
     Unmarked,
 }
 
-/// An element of a JSON text sequence (RFC 7464, section 2.1), and what it comes to.
+/// An element of a JSON text sequence (RFC 7464, section 2.1), and the verdict on it.
 #[derive(Clone, Copy, Debug, PartialEq, Eq)]
 pub struct JudgedElement {
     /// Where it stands, as offsets in the whole input.

@@ -11,8 +11,8 @@ use crate::sequences::element_verdict::JudgedElement;
 use crate::texts::settings::{Front, FrontMark};
 use jx_lex::Span;
 
-/// Whether the bytes at a span are just the byte order mark at the input's start. `seen` is what stands there where a mark
-/// is ignored (`front`).
+/// Whether the bytes at a span are just the byte order mark at the input's start. `seen` is what stands there where a
+/// byte order mark is ignored (`front`).
 pub fn is_mark_alone(seen: Front, span: Span) -> bool
     ensures alone { (input : List ℕ) → seen ≡ front_of Ignored input → span.end ≤ length input → result ≡ is_mark_alone (part_of input span) }
 {
@@ -40,9 +40,10 @@ fn without_mark(seen: Front, mut elements: Vec<JudgedElement>) -> Vec<JudgedElem
     elements
 }
 
-/// The verdicts on the elements of a sequence by what becomes of a byte order mark, from those on all of them. Where it is
-/// ignored, one that stands alone before the first record separator is no element (RFC 7464, section 2.1; RFC 8259,
-/// section 8.1). `seen` is what stands at the sequence's start where a mark is ignored (`front`). It takes no memory.
+/// The verdicts on the elements of a sequence by what becomes of a byte order mark, from those on all of them. Where it
+/// is ignored, one that stands alone before the first record separator is no element (RFC 7464, section 2.1; RFC 8259,
+/// section 8.1). `seen` is what stands at the sequence's start where a byte order mark is ignored (`front`). It takes
+/// no memory.
 pub fn judged_by_mark(
     mark: FrontMark,
     seen: Front,

@@ -21,9 +21,9 @@ use jx_lex::{Depth, Span};
 use jx_summary::Summary;
 use std::alloc::{AllocError, Global};
 
-/// The verdict on an element behind a record separator: the bytes of a text between two places, the first of which has the
-/// offset `start`. The reader begins anew, and takes what stands behind as room, so that it takes the last tokens as fast as
-/// the others.
+/// The verdict on an element after a record separator: the bytes of a text between two places, the first of which has
+/// the offset `start`. The reader begins anew, and takes what follows as room, so that it takes the last tokens as fast
+/// as the others.
 pub(crate) fn read_element(
     reader: &mut Reader,
     text: &[u8],
@@ -82,7 +82,7 @@ impl Piece for PartRun {
     }
 }
 
-/// The elements behind the first separator, in order, the last one behind the others unless it is empty.
+/// The elements after the first separator, in order, the last one after the others unless it is empty.
 pub(crate) fn elements_behind(marked: Marked<PartRun>) -> Result<Vec<JudgedElement>, AllocError>
     ensures { (limit : ℕ) (behind : List Part) → AreMarked limit behind marked → IfOk result (λ es. AllZip (IsJudgedElement limit) (filled behind) es.items) }
 {
@@ -97,7 +97,7 @@ pub(crate) fn elements_behind(marked: Marked<PartRun>) -> Result<Vec<JudgedEleme
     Ok(elements)
 }
 
-/// The same elements, and the same run behind them, so much further on. It takes no memory.
+/// The same elements, and the same run after them, so much further on. It takes no memory.
 pub(crate) fn shifted_behind(marked: Marked<PartRun>, by: usize) -> Marked<PartRun>
     requires fits { marked.after.outcomes.end + by < 2 ^ 64 }
     ensures done { result.done ≡ map (moved by) marked.done }

@@ -6,7 +6,7 @@ ghost use Rattle.jx_run.specs.Unclosed.{is_open, ends_open, last_open};
 use crate::sequences::element_verdict::ElementVerdict;
 use crate::texts::verdict::Verdict;
 
-/// No blank, and no byte that ends a string or a container.
+/// Whether the byte is neither white space nor one that ends a string or a container.
 fn is_open(byte: u8) -> bool
     ensures { result ≡ is_open byte }
 {
@@ -34,7 +34,7 @@ pub fn ends_open_behind(before: bool, bytes: &[u8]) -> bool
     }
 }
 
-/// The verdict on an element behind a record separator, by that on its bytes and by whether their last one is open.
+/// The verdict on an element after a record separator, by that on its bytes and by whether their last one is open.
 pub(crate) fn told(verdict: Verdict, open_ended: bool) -> ElementVerdict
     ensures { result ≡ told verdict open_ended }
 {

@@ -13,7 +13,7 @@ use crate::texts::settings::Settings;
 use jx_lex::Depth;
 use std::alloc::{AllocError, Global};
 
-/// Judges the elements of a part of a text sequence, which begins with a record separator and stands behind so many bytes.
+/// Judges the elements of a part of a text sequence, which begins with a record separator and is after so many bytes.
 /// One reader reads them, each at its offset in the whole sequence. The last one ends with the part.
 pub fn elements_of_part(
     alloc: Global,
@@ -30,7 +30,7 @@ pub fn elements_of_part(
         return Ok(judged);
     }
     let mut reader = Reader::new(alloc, &Settings::from(depth), before);
-    // Behind the separator in front.
+    // After the separator in front.
     let mut from = 1;
     while let Some(at) = next_separator(part, from, part.len()) {
         if from < at {

@@ -9,7 +9,8 @@ use crate::texts::verdict::Refusal;
 /// U+FEFF in UTF-8.
 const BYTE_ORDER_MARK: [u8; 3] = [0xEF, 0xBB, 0xBF];
 
-/// With how many bytes of the mark a text begins: with so many before this slice, and then with those of the slice.
+/// With how many bytes of the byte order mark a text begins: with so many before this slice, and then with those of the
+/// slice.
 pub(crate) fn count_agreed(slice: &[u8], before: usize) -> usize
     requires { before < 3 }
     ensures bounds { (before ≤ result) × (result ≤ 3) }
@@ -27,7 +28,7 @@ pub(crate) fn count_agreed(slice: &[u8], before: usize) -> usize
     3
 }
 
-/// What stands in front, by how many bytes of the mark the text begins with.
+/// The front of a text, by how many bytes of the byte order mark the text begins with.
 fn seen(text: &[u8], mark: FrontMark) -> Front
     ensures { result ≡ front_of mark text.now }
 {
@@ -42,10 +43,10 @@ fn seen(text: &[u8], mark: FrontMark) -> Front
     }
 }
 
-/// What stands in front of a text that begins at the input's start (RFC 8259, section 8.1). It is the mark or a part of
+/// The front of a text that begins at the input's start (RFC 8259, section 8.1). It is the byte order mark or a part of
 /// it where the setting ignores it, and otherwise nothing. It takes no memory.
 ///
-/// The verdict by settings is that on the bytes behind the front, at their offsets, or the refusal.
+/// The verdict by settings is that on the bytes after the front, at their offsets, or the refusal.
 pub fn front(text: &[u8], mark: FrontMark) -> Front
     ensures value { result ≡ front_of mark text.now }
     ensures verdict { IsTold mark text.now result }

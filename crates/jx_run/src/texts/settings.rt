@@ -7,7 +7,7 @@ use jx_lex::Depth;
 pub enum FrontMark {
     /// It is no part of a text, so a text that begins with one is refused.
     Refused,
-    /// One may stand in front of a text, before all blanks. Offsets count its bytes.
+    /// One may stand in front of a text, before all white space. Offsets count its bytes.
     Ignored,
 }
 
@@ -21,14 +21,14 @@ pub enum NameRule {
     Unique,
 }
 
-/// What a reader is told besides the bytes.
+/// The settings of a reader: a depth, and what it makes of a byte order mark and of repeated names.
 #[derive(Clone, Copy, Debug, PartialEq, Eq)]
 pub struct Settings {
     /// How many containers may stand open at once.
     pub depth: Depth,
-    /// What becomes of a byte order mark in front of a text.
+    /// Whether a byte order mark in front of a text is ignored or refused.
     pub mark: FrontMark,
-    /// What becomes of a name that an object repeats.
+    /// Whether a name that an object repeats is refused.
     pub names: NameRule,
 }
 
@@ -49,11 +49,11 @@ impl From<Depth> for Settings {
     }
 }
 
-/// Where a text begins behind what stands in front of it, or why there is none whatever follows.
+/// Where a text begins after what stands in front of it, or why there is none whatever follows.
 #[derive(Clone, Copy, Debug, PartialEq, Eq)]
 pub enum Front {
-    /// The text begins behind so many bytes.
+    /// The text begins after so many bytes.
     Skip(usize),
-    /// The bytes in front are no mark and begin no text.
+    /// The bytes in front are no byte order mark, and no text begins with them.
     Refused(Refusal),
 }

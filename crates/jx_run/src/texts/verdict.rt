@@ -2,9 +2,9 @@
 /// from 0; what stands of the text before it begins one within the depth.
 #[derive(Clone, Copy, Debug, PartialEq, Eq)]
 pub enum Refusal {
-    /// With the byte at this offset it begins no text of any depth.
+    /// No text of any depth begins with these bytes up to and with the byte at this offset.
     Stopped { at: usize },
-    /// It ends too early: all of its bytes begin a text within the depth, and are none.
+    /// It ends too early: a text within the depth begins with all of its bytes, and they are not one.
     Truncated,
     /// With the byte at this offset it begins only texts of a greater depth: the byte opens one container more than may stand
     /// open at once (section 9).
@@ -14,7 +14,7 @@ pub enum Refusal {
     RepeatedName { at: usize },
 }
 
-/// What reading a text comes to.
+/// The verdict on a text.
 #[derive(Clone, Copy, Debug, PartialEq, Eq)]
 pub enum Verdict {
     Accepted,

@@ -1,4 +1,4 @@
--- What was read of the head of an index.
+-- The part of an index's head that was read.
 use Rattle.std.specs.Prelude.{◌≡◌, Option, None, Some}
 use Rattle.jx_saved.specs.declared.decoding.Head.{Head}
 use Rattle.jx_saved.specs.declared.index.Index.{Index}

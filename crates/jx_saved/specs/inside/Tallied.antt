@@ -1,4 +1,4 @@
--- What was tallied of the tokens of a chunk.
+-- The tally of the tokens of a chunk.
 use Rattle.std.specs.Prelude.{◌≡◌, ℕ, List, Bool}
 use Rattle.jx_lex.specs.declared.alphabet.mark.Mark.{Mark}
 use Rattle.jx_reduce.specs.KnownStack.{Known, IsFault}
@@ -7,13 +7,13 @@ use Rattle.jx_saved.specs.declared.sum.Sum.{Sum}
 use Rattle.jx_saved.specs.Chunks.{has_some}
 use Rattle.jx_saved.specs.Sums.{sum_of}
 
--- these are what marks and ends come to
+-- these are what token starts and ends lead to
 pub record Tells (marks : List Mark) (ends : List ℕ) (sum : Sum) (begins ended : Bool) : Type 0 where
   pub sum_is : sum ≡ sum_of marks
   pub begins_is : begins ≡ has_some marks
   pub ends_is : ended ≡ has_some ends
 
--- behind an earlier stack; a fault of the marks makes the tally of no account
+-- after an earlier stack; after a fault of the token starts the tally is ignored
 pub record HasTallied (earlier : Known) (marks : List Mark) (ends : List ℕ) (stack : Known) (sum : Sum) (begins ended : Bool) : Type 0 where
   pub depth : stack.depth ≡ earlier.depth
   pub reading : stack.reading ≡ read earlier.depth marks earlier.reading

@@ -1,4 +1,4 @@
--- What was read of an input whose index is saved.
+-- The bytes read of an input whose index is saved.
 use Rattle.std.specs.Prelude.{◌≡◌, ℕ, List, Bool, Option, Result, Ok, Err}
 use Rattle.std.specs.Io.KnownBytes.{Consumes}
 use Rattle.jx_run.specs.declared.texts.settings.NameRule.TheVariants.{Any, Unique}
@@ -35,7 +35,7 @@ pub record IsByNames (settings : Settings) (chunk : ℕ) (bytes : List ℕ) (ind
   pub fed : HasFed (any_names settings) chunk bytes indexer
   pub is_verdict : IsVerdictBy settings bytes verdict
 
--- what a text comes to: its index, or why it is none
+-- the result for a text: its index, or why it is refused
 abbrev pub Comes : Settings → ℕ → List ℕ → Result Index Refusal → Type 0
 Comes settings chunk text (Ok index) = IsVerdictBy settings text Accepted × IsIndexOf settings chunk text index
 Comes settings chunk text (Err refusal) = IsVerdictBy settings text (Refused refusal)
@@ -60,12 +60,12 @@ pub record IsSaved (has_names : Bool) (settings : Settings) (chunk : ℕ) (text 
   pub names : HasNames has_names settings chunk text saved.names
   pub savable : HasTablesToo saved.index saved.names
 
--- what a text comes to: what is saved of it, or why it is none
+-- the result for a text: what is saved of it, or why it is refused
 abbrev pub ComesToSaved : Bool → Settings → ℕ → List ℕ → Result SavedText Refusal → Type 0
 ComesToSaved has_names settings chunk text (Ok saved) = IsSaved has_names settings chunk text saved
 ComesToSaved has_names settings chunk text (Err refusal) = IsVerdictBy settings text (Refused refusal)
 
--- all that the reader had was read, and this is what it comes to
+-- all that the reader had was read, and this is what it leads to
 pub record IsRead (has_names : Bool) (settings : Settings) (chunk : ℕ) (unread left : Option (List ℕ)) (saved : Result SavedText Refusal) : Type 0 where
   pub text : List ℕ
   pub read : ReadsToEnd unread left text

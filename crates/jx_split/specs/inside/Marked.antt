@@ -1,11 +1,11 @@
--- What a sink has come to by the marks of a chunk.
+-- The state of a sink after the token starts of a chunk.
 use Rattle.std.specs.Prelude.{◌≡◌, ℕ, List}
 use Rattle.jx_lex.specs.declared.alphabet.mark.Mark.{Mark}
 use Rattle.jx_run.specs.Telling.{moved_marks}
 use Rattle.jx_split.specs.declared.cutting.Aim.{Aim}
 use Rattle.jx_split.specs.Cuts.{Cuts, cut_all}
 
--- behind what there was before the chunk, which stands from an offset on
+-- after what there was before the chunk, which stands from an offset on
 pub record HasCut (aim : Aim) (base : ℕ) (earlier : Cuts) (marks : List Mark) (own : Aim) (own_base : ℕ) (now : Cuts) : Type 0 where
   pub aim_is : own ≡ aim
   pub base_is : own_base ≡ base

@@ -9,15 +9,15 @@ use Rattle.jx_split.specs.declared.cutting.Aim.{Aim}
 use Rattle.jx_split.specs.Cuts.{Cuts, cut_all}
 use Rattle.jx_split.specs.Parts.{part_of}
 
--- all offsets of a stretch stand in the part with a number
+-- all offsets of a part stand in the part with a number
 abbrev pub AllInPart : Aim → ℕ → Span → Type 0
 AllInPart aim number s = (at : ℕ) → s.start ≤ at → at < s.end → part_of aim.parts aim.whole at ≡ number
 
--- a mark of a stretch
+-- a token start of a part
 pub record IsMarkIn (s : Span) (m : Mark) : Type 0 where
   pub from : s.start ≤ m.at
   pub to : m.at < s.end
 
--- whichever marks of the stretch have the sum, they change nothing but the sum
+-- whichever token starts of the part have the sum, they change nothing but the sum
 abbrev pub IsPassed : Aim → Span → Sum → Cuts → Sum → Type 0
 IsPassed aim s sum c next = (marks : List Mark) → AllByRecursion (IsMarkIn s) marks → sum_of marks ≡ sum → cut_all aim marks c ≡ record c { sum = next }

@@ -1,4 +1,4 @@
--- Characters in UTF-8, one behind another.
+-- Characters in UTF-8, one after another.
 use Rattle.std.specs.Prelude.{ℕ, List, Option, map, unwrap_or}
 use Rattle.std.specs.Str.{encode_utf8_all}
 

@@ -1,4 +1,4 @@
--- What is kept of a text that is read batch by batch, for the pointer that is looked up in it.
+-- The bytes kept of a text that is read batch by batch, for the pointer that is looked up in it.
 use Rattle.std.specs.Prelude.{◌≡◌, ℕ, ◌≤◌, List, ◌∷◌, [], ◌++◌, Option, drop, flat_map, length}
 use Rattle.std.specs.Io.KnownBytes.{Consumes}
 use Rattle.jx_run.specs.declared.texts.settings.Settings.{Settings}
@@ -34,11 +34,11 @@ pub record IsAllRead (settings : Settings) (pointer : List ℕ) (unread left : O
   pub read : ReadsToEnd unread left text
   pub looked : IsValueRead settings pointer text reader
 
--- what is written and told of a text by what is held of it
+-- what is written and told a text by what is kept of it
 abbrev pub IsHeldFor : Form → ValuesTask → List ℕ → Held → Type 0
 IsHeldFor form task text held = ValuesOutput form task text (flat_map (value_line form held.text.items) held.reply.answers.items) held.reply.told.items (exit_by held.reply.told.items)
 
--- the reader gave all that it had, and this is held for it
+-- the reader gave all that it had, and this is kept for it
 abbrev pub IsHeldAnswer : Form → ValuesTask → Option (List ℕ) → Option (List ℕ) → Held → Type 0
 IsHeldAnswer form task unread left held =
     IsAnswered (λ text output exit. ValuesOutput form task text output held.reply.told.items exit) task.piece unread left (flat_map (value_line form held.text.items) held.reply.answers.items) (exit_by held.reply.told.items)

@@ -1,4 +1,4 @@
--- What a reply says of a text: what is written by its answers, and what is told.
+-- The contents of a reply to a text: what is written by its answers, and the report.
 use Rattle.std.specs.Prelude.{ℕ, List, flat_map}
 use Rattle.jx_task.specs.declared.values_task.ValuesTask.{ValuesTask}
 use Rattle.jx_values.specs.declared.form.Form.{Form}

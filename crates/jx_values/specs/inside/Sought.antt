@@ -1,4 +1,4 @@
--- What is looked up while elements are written.
+-- The look-up that runs while elements are written.
 use Rattle.std.specs.Prelude.{◌≡◌, ℕ, List, [], ◌∷◌, Bool, true, false, Option, Some, None}
 use Rattle.jx_run.specs.declared.texts.settings.NameRule.TheVariants.{Any}
 use Rattle.jx_run.specs.declared.texts.settings.Settings.{Settings}

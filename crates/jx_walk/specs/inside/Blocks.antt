@@ -1,4 +1,4 @@
--- What the entries of an index tell of blocks of chunks.
+-- The entries of an index for blocks of chunks.
 use Rattle.std.specs.Prelude.{◌≡◌, ◌+◌, ◌*◌, ◌<◌, ◌≤◌, ℕ, List, length, drop, slice_get, Some}
 use Rattle.jx_run.specs.declared.texts.settings.Settings.{Settings}
 use Rattle.jx_run.specs.Reader.{Outcome}
@@ -11,7 +11,7 @@ use Rattle.jx_saved.specs.Sums.{sum_of}
 use Rattle.jx_walk.specs.declared.blocks.Block.{Block}
 use Rattle.jx_walk.specs.Known.{IsKnown}
 
--- an entry tells of bytes, behind what those before them come to, all that the entry of a chunk would but their digest
+-- an entry says of bytes, after those before them, all that the entry of a chunk would but their digest
 pub record TellsOf (earlier : Outcome) (bytes : List ℕ) (e : Entry) : Type 0 where
   pub state : e.state ≡ state_behind earlier
   pub expect : e.expect ≡ expect_behind earlier
@@ -19,7 +19,7 @@ pub record TellsOf (earlier : Outcome) (bytes : List ℕ) (e : Entry) : Type 0 w
   pub begins : e.begins ≡ has_some (track_of earlier bytes).marks
   pub ends : e.ends ≡ has_some (track_of earlier bytes).ends
 
--- of each part of a text of this size, the last one too, there is an entry that tells
+-- of each part of a text of this size, the last one too, there is an entry that says it
 pub record IsLevel (settings : Settings) (size : ℕ) (text : List ℕ) (es : List Entry) : Type 0 where
   pub counted : IsCount size (length text) (length es)
   pub each : (n : ℕ) (e : Entry) → slice_get es n ≡ Some e → TellsOf (before settings text (n * size)) (part size text n) e
@@ -37,7 +37,7 @@ pub record IsBlockAt (index : Index) (at : ℕ) (b : Block) : Type 0 where
   pub some : 1 ≤ b.chunks
   pub of : (settings : Settings) (chunk : ℕ) (text : List ℕ) → IsKnown settings chunk text index → IsBlockOf settings chunk text index at b
 
--- an entry tells of the bytes of a block, where more of the text stands behind them
+-- an entry is about the bytes of a block, where more of the text follows them
 abbrev pub TellsOfBlock : Index → Block → Entry → Type 0
 TellsOfBlock index b e = (at : ℕ) → IsBlockAt index at b → (settings : Settings) (chunk : ℕ) (text : List ℕ) → IsKnown settings chunk text index
     → (b.place + 1) * (b.chunks * chunk) < length text

@@ -1,4 +1,4 @@
--- How far chunks of an object on the way are passed over.
+-- How far chunks of an object on the way are skipped.
 use Rattle.std.specs.Prelude.{◌≡◌, ◌==◌, ◌+◌, ◌*◌, ◌<◌, ◌≤◌, ◌++◌, ℕ, suc, List, ◌∷◌, true, cond, length, Option, None, Some, is_some, slice_get, take}
 use Rattle.jx_lex.specs.declared.alphabet.mark.Mark.{Mark}
 use Rattle.jx_lex.specs.TokenStates.{in_token}
@@ -39,12 +39,12 @@ NoneWants names edges node chunk = (i : ℕ) (e : Edge) → slice_get edges i �
 
 -- ---- the names of a text
 
--- which token has begun behind so many chunks
+-- which token has begun after so many chunks
 abbrev pub begun_at : {settings : Settings} {size : ℕ} {text : List ℕ} {count : ℕ} {last : Option Mark} {names : List (List (List ℕ))} → AreNamed settings size text count last names → ℕ → Option Mark
 begun_at none n = None
 begun_at (more {n = k} {later = later} h own) n = cond (n == suc k) later (begun_at h n)
 
--- ---- what is found in an object where some of its members were passed over
+-- ---- what is found in an object where some of its members were skipped
 
 abbrev pub found_among : List Met → Cursor → List Cursor → ℕ → ℕ → Option (Option ℕ) → Finding
 found_among met c outer count skipped name = record { met = met; opened = record c { count = count } ∷ outer; skipped = skipped; name = name }
@@ -55,14 +55,14 @@ pub record IsCut (skipped : ℕ) (e : Entry) : Type 0 where
   pub begun : in_token e.state ≡ true
   pub name : e.expect ≡ Colon
 
--- what is held stands in the object before a chunk, where no name was cut, and no wanted value waits
+-- what is kept stands in the object before a chunk, where no name was cut, and no wanted value waits
 pub record IsStarted (held : Sought) (e : Entry) : Type 0 where
   pub agrees : in_token e.state ≡ is_some held.begun
   pub named : held.state.name ≡ unwanted_name held.state.skipped (in_token e.state) e.expect
   pub stands : InObject held.state.skipped (in_token e.state) e.expect
   pub uncut : IsCut held.state.skipped e → ⊥
 
--- so many chunks lead to this, behind a token that has begun
+-- so many chunks lead to this, after a token that has begun
 pub record IsLedTo (settings : Settings) (size : ℕ) (text : List ℕ) (edges : List Edge) (held : Sought) (c : Cursor) (begun : Option Mark) (n count skipped : ℕ) : Type 0 where
   pub outer : List Cursor
   pub opened : (finding held.state).opened ≡ c ∷ outer
@@ -74,7 +74,7 @@ pub record IsLedTo (settings : Settings) (size : ℕ) (text : List ℕ) (edges :
   pub comes : (future : List ℕ) → Comes (take (n * size) text ++ future) edges (tokens_by settings.mark (take (n * size) text)).marks (tokens_by settings.mark (take (n * size) text)).ends
       (found_among held.state.met.items c outer count skipped (unwanted_name skipped (is_some begun) expect)) begun
 
--- a chunk in which as many members are told as its entry and that of the next one tell
+-- a chunk in which as many members begin as its entry and that of the next one say
 pub record IsCounted (here behind : Entry) (count skipped later deeper : ℕ) : Type 0 where
   pub low : here.sum.closed ≤ skipped
   pub deeper_is : deeper + here.sum.closed ≡ skipped + here.sum.opened
@@ -86,7 +86,7 @@ pub record IsCounted (here behind : Entry) (count skipped later deeper : ℕ) : 
 abbrev pub IsLed : (settings : Settings) (size : ℕ) (text : List ℕ) → List Edge → (names : TextNames) → AreTablesOf settings size text names.tables.now → Sought → Cursor → ℕ → Among → Type 0
 IsLed settings size text edges names t held c n among = IsLedTo settings size text edges held c (begun_at t.named n) n among.count among.skipped
 
--- what is held of the chunks before a place leads to this before another
+-- what is kept of the chunks before a place leads to this before another
 abbrev pub LeadsTo : Index → TextNames → List Edge → Sought → ℕ → Cursor → ℕ → Among → Type 0
 LeadsTo index names edges held at c n among = (settings : Settings) (chunk : ℕ) (text : List ℕ) → IsKnown settings chunk text index → (t : AreTablesOf settings chunk text names.tables.now) → HaveNumbers edges names.numbers.items
     → IsHeldAt settings chunk text edges at held → IsLed settings chunk text edges names t held c n among
@@ -100,14 +100,14 @@ abbrev pub LeadsOn : Index → TextNames → List Edge → Sought → Cursor →
 LeadsOn index names edges held c n one other = (settings : Settings) (chunk : ℕ) (text : List ℕ) → IsKnown settings chunk text index → (t : AreTablesOf settings chunk text names.tables.now) → HaveNumbers edges names.numbers.items
     → IsLed settings chunk text edges names t held c n one → IsLed settings chunk text edges names t held c (suc n) other
 
--- what is held in the object behind the last of them
+-- what is kept in the object after the last of them
 pub record IsHeldAmong (held : Sought) (among : Among) (entry : Entry) (next : Sought) : Type 0 where
   pub found : (c : Cursor) (outer : List Cursor) → (finding held.state).opened ≡ c ∷ outer
       → finding next.state ≡ found_among held.state.met.items c outer among.count among.skipped (unwanted_name among.skipped (in_token entry.state) entry.expect)
   pub next_is : next.next ≡ held.next
   pub begun_is : next.begun ≡ waiting (in_token entry.state)
 
--- chunks from a place on are passed over: what is held of those before it and changes so is held behind them
+-- chunks from a place on are skipped: what is kept of those before it and changes so is kept after them
 pub record IsPast (index : Index) (names : TextNames) (edges : List Edge) (held : Sought) (at : ℕ) (among : Among) (entry : Entry) (end : ℕ) : Type 0 where
   pub later : at < end
   pub leads : (settings : Settings) (chunk : ℕ) (text : List ℕ) → IsKnown settings chunk text index → (t : AreTablesOf settings chunk text names.tables.now) → HaveNumbers edges names.numbers.items

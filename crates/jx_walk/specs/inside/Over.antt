@@ -1,4 +1,4 @@
--- What is held behind a part of a text that is passed over.
+-- The state after a part of a text that is skipped.
 use Rattle.std.specs.Prelude.{◌≡◌, ℕ, List, [], ◌∷◌, ◌++◌, Option, None, Some, is_some, length}
 use Rattle.jx_lex.specs.declared.alphabet.mark.Mark.{Mark}
 use Rattle.jx_lex.specs.Lex.{lex, LexExit}
@@ -18,8 +18,8 @@ use Rattle.jx_saved.specs.Chunks.{has_some}
 use Rattle.jx_saved.specs.Sums.{sum_of}
 use Rattle.jx_walk.specs.declared.passing.Over.{Over}
 
--- behind some bytes of an accepted text, which have these marks, a piece stands of which this entry is kept, and behind it one
--- of which the other is
+-- after some bytes of an accepted text, which have these token starts, a part stands of which this entry is kept, and
+-- after it one of which the other is
 pub record IsPiece (limit : ℕ) (bytes piece : List ℕ) (marks : List Mark) (here behind : Entry) : Type 0 where
   pub exit : (lex here.state (length bytes) piece).exit ≡ LexExit.state behind.state
   pub sum : here.sum ≡ sum_of (lex here.state (length bytes) piece).marks
@@ -39,16 +39,16 @@ recounted (Some count) (c ∷ outer) = record c { count = count } ∷ outer
 abbrev pub finding_over : Over → Finding → Finding
 finding_over over f = record { met = f.met; opened = recounted over.count f.opened; skipped = over.skipped; name = f.name }
 
--- what is held so of the bytes, the piece among them
+-- what is kept so of the bytes, the part among them
 abbrev pub LeadsOver : List ℕ → List ℕ → List Edge → List Mark → List ℕ → Sought → Entry → Over → Type 0
 LeadsOver bytes piece edges marks ends held here over = (s : State) (name : List ℕ) → finding s ≡ finding_over over (finding held.state)
     → IsHeld (bytes ++ piece) edges (marks ++ (lex here.state (length bytes) piece).marks) (ends ++ (lex here.state (length bytes) piece).ends) s over.next over.begun name
 
--- whatever the bytes and the piece
+-- whatever the bytes and the part
 abbrev pub IsOver : Sought → List Edge → Entry → Entry → Over → Type 0
 IsOver held edges here behind over = (limit : ℕ) (bytes piece : List ℕ) (marks : List Mark) (ends : List ℕ) → IsHeld bytes edges marks ends held.state held.next held.begun held.name.items
     → IsPiece limit bytes piece marks here behind → LeadsOver bytes piece edges marks ends held here over
 
--- where a token is held just where the piece begins inside one, one is held behind it just where it ends inside one
+-- where a token is kept just where the part begins inside one, one is kept after it just where it ends inside one
 abbrev pub KeepsTurn : Sought → Entry → Entry → Over → Type 0
 KeepsTurn held here behind over = (limit : ℕ) (bytes piece : List ℕ) (marks : List Mark) → IsPiece limit bytes piece marks here behind → is_some held.begun ≡ in_token here.state → is_some over.begun ≡ in_token behind.state

@@ -1,4 +1,4 @@
--- How far chunks are passed over.
+-- How far chunks are skipped.
 use Rattle.std.specs.Prelude.{◌≡◌, ◌<◌, ℕ, List}
 use Rattle.jx_run.specs.declared.texts.settings.Settings.{Settings}
 use Rattle.jx_index.specs.declared.trie.Edge.{Edge}
@@ -10,7 +10,7 @@ use Rattle.jx_walk.specs.HeldAt.{IsHeldAt}
 use Rattle.jx_walk.specs.Known.{IsKnown}
 use Rattle.jx_walk.specs.inside.Over.{finding_over}
 
--- chunks from a place on are passed over: what is held of those before it and changes so is held behind them
+-- chunks from a place on are skipped: what is kept of those before it and changes so is kept after them
 pub record IsStretch (index : Index) (edges : List Edge) (held : Sought) (at : ℕ) (s : Stretch) : Type 0 where
   pub later : at < s.end
   pub leads : (settings : Settings) (chunk : ℕ) (text : List ℕ) → IsKnown settings chunk text index → IsHeldAt settings chunk text edges at held

@@ -1,4 +1,4 @@
--- What the faults of other crates come to.
+-- The faults of other crates, as this one reports them.
 use Rattle.std.specs.Prelude.{◌≡◌, ◌≢◌, ℕ, List, slice_range}
 use Rattle.jx_saved.specs.declared.decoding.SavedFault.{SavedFault}
 use Rattle.jx_saved.specs.declared.decoding.SavedFault.TheVariants as saved
@@ -31,7 +31,8 @@ IsOfSaved size (OtherSize bytes indexed) = (bytes ≡ size) × (indexed ≢ size
 IsOfSaved size (Changed span) = ⊥
 IsOfSaved size NoText = ⊥
 
--- a chunk is told to be changed only where the file has other bytes there than the text; no text is damaged
+-- a chunk is reported to be changed only where the file has other bytes there than the text; the index of a text is
+-- never damaged
 abbrev pub IsChange : List ℕ → List ℕ → LookFault → Type 0
 IsChange text file SavedRead = Unit {0}
 IsChange text file TextRead = Unit {0}

@@ -1,4 +1,4 @@
--- What a string comes to whose container is split.
+-- The answer to a string whose container is split.
 use Rattle.std.specs.Prelude.{◌≡◌, ℕ, List, Result, Ok, Err, length, Vec}
 use Rattle.std.specs.declared.alloc.Global.{Global}
 use Rattle.jx_run.specs.declared.texts.settings.Settings.{Settings}

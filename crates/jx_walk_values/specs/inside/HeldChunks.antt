@@ -1,4 +1,4 @@
--- What is held of a chunk.
+-- The chunk that is kept.
 use Rattle.std.specs.Prelude.{◌≡◌, ℕ, ◌-◌, List, Option, length}
 use Rattle.jx_saved.specs.declared.index.Index.{Index}
 use Rattle.jx_walk_values.specs.declared.held_chunk.HeldChunk.{HeldChunk}

@@ -1,4 +1,4 @@
--- What is written and told of pointers, one by one.
+-- The lines that are written and reported for pointers, one by one.
 use Rattle.std.specs.Prelude.{◌≡◌, ◌≤◌, ℕ, List, ◌++◌, Option, flat_map, length, min, take}
 use Rattle.std.specs.Io.KnownBytes.{Appends}
 use Rattle.jx_saved.specs.declared.index.Index.{Index}
@@ -16,7 +16,7 @@ pub record WroteLine (known : Option (List ℕ)) (index : Index) (form : Form) (
   pub is : OfEachText known index (λ text file. line ≡ value_line form text answer)
   pub wrote : Appends old new line
 
--- a beginning of it, and not all; beside what would be told of it
+-- a beginning of it, and not all; beside what would be reported of it
 pub record BeganLine (known : Option (List ℕ)) (index : Index) (form : Form) (pointer : List ℕ) (answer : PointerAnswer) (old new : Option (List ℕ)) : Type 0 where
   pub line : List ℕ
   pub words : List ℕ
@@ -24,13 +24,13 @@ pub record BeganLine (known : Option (List ℕ)) (index : Index) (form : Form) (
   pub words_are : OfEachText known index (λ text file. words ≡ told_line form text pointer answer)
   pub wrote : AppendsBeginning old new line
 
--- what is to be told of it was added
+-- what is to be reported of it was added
 abbrev pub AddsTold : Option (List ℕ) → Index → Form → List ℕ → PointerAnswer → List ℕ → List ℕ → Type 0
 AddsTold known index form pointer answer old new = OfEachText known index (λ text file. new ≡ old ++ told_line form text pointer answer)
 
 -- ---- of the first of them, so many
 
--- these are their lines, and this is what is told
+-- these are their lines, and this is the report
 pub record AreLinesOf (known : Option (List ℕ)) (index : Index) (form : Form) (pointers : List (List ℕ)) (answers : List PointerAnswer) (count : ℕ) (lines told : List ℕ) : Type 0 where
   pub lines_are : OfEachText known index (λ text file. lines ≡ flat_map (value_line form text) (take count answers))
   pub told_is : OfEachText known index (λ text file. told ≡ told_lines form text (take count pointers) (take count answers))

@@ -1,4 +1,4 @@
--- What holds of each text with an index, where its chunks are told apart in the file that is read.
+-- Facts of each text with an index, where its chunks are distinguished in the file that is read.
 use Rattle.std.specs.Prelude.{◌≡◌, ℕ, List, Option, Some, slice_range}
 use Rattle.jx_run.specs.declared.texts.settings.Settings.{Settings}
 use Rattle.jx_saved.specs.declared.index.Index.{Index}
@@ -15,6 +15,6 @@ OfEachText known index P = (settings : Settings) (chunk : ℕ) (text file : List
 abbrev pub AreBytesIn : Option (List ℕ) → Index → ℕ → ℕ → List ℕ → Type 0
 AreBytesIn known index start end bytes = OfEachText known index (λ text file. bytes ≡ slice_range text start end)
 
--- a chunk is told to be changed only where it is
+-- a chunk is reported to be changed only where it is
 abbrev pub IsChangeIn : Option (List ℕ) → Index → LookFault → Type 0
 IsChangeIn known index fault = OfEachText known index (λ text file. IsChange text file fault)

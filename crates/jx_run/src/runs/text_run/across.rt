@@ -30,7 +30,7 @@ impl TextRun {
         Ok(Started::new(span, self.depth(), marks, ends, verdict))
     }
 
-    /// The marks and the ends of the track from the start of a text, on through the run to the right.
+    /// The token starts and the ends of the track from the start of a text, on through the run to the right.
     fn copy_track_with(&self, right: &TextRun) -> Result<(Vec<Mark>, Vec<usize>), AllocError>
         requires neighbours { self.now.map.end ≡ right.now.map.start }
         ensures marks { (xs ys : List ℕ) → IsTextRun xs self.now → IsTextRun ys right.now → IfOk result (λ r. r.0.items ≡ (lex Gap self.now.map.start (xs ++ ys)).marks) }
