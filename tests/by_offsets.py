@@ -1,5 +1,6 @@
-"""by_offsets.py PROGRAM: makes the texts that lines on standard input name, and compares what `check` by several workers answers to them with
-what is known of each by how it was made, and with what one worker answers. Prints each difference, and how many answers were right."""
+"""by_offsets.py PROGRAM COMMAND: makes the texts, or the sequences, that lines on standard input name, and compares what `check`, or `seq`, by
+several workers answers to them with what is known of each by how it was made, and with what one worker answers. Prints each difference, and
+how many answers were right."""
 import pathlib
 import subprocess
 import sys
@@ -105,12 +106,73 @@ def compare(program, room, line):
     return right, wrong
 
 
+# The bytes of an element, and its verdict, behind which its offset stands where it has one. A depth of 2 is the limit of `deep` alone.
+ELEMENTS = {
+    "object": ('{"a":[1,"\u00e9"]}\n'.encode(), "accepted", None),
+    "number": (b"12", "may be cut", None),
+    "ended": (b"12\n", "accepted", None),
+    "cut": (b"[1,2", "truncated", None),
+    "bad": (b"[1,}", "stopped at", 3),
+    "blank": (b" \n", "truncated", None),
+    "deep": (b"[[[1]]]", "too deep at", 2),
+    "nothing": (b"", None, None),
+    "long": (b'"' + b"x" * 300000 + b'"', "accepted", None),
+    "feeds": (b"[1,\n2,\n3]\n", "accepted", None),
+}
+
+
+def sequence(size, front, names):
+    """A sequence of some such size, and the lines of its elements."""
+    text, lines = bytearray(front), []
+    if front:
+        lines.append(f"0..{len(front)} unmarked")
+    while len(text) < size and names:
+        for name in names:
+            element, verdict, at = ELEMENTS[name]
+            text += b"\x1e"
+            start = len(text)
+            text += element
+            if verdict:
+                lines.append(f"{start}..{len(text)} {verdict}" + ("" if at is None else f" {start + at}"))
+    return bytes(text), lines
+
+
+def compare_sequences(program, room, line):
+    """How many answers to the sequence of a line are right, and which are wrong."""
+    piece, size, front, names, options = (part.strip() for part in line.split("|"))
+    text, lines = sequence(int(size), b"" if front == "-" else front.encode(), names.split())
+    words = "".join(f"{line}\n" for line in lines)
+    status = 0 if all(line.endswith("accepted") for line in lines) else 1
+    path = room / "sequence"
+    path.write_bytes(text)
+    settings = ["seq", *options.split(), *([] if piece == "-" else ["--piece", piece])]
+    right, wrong = 0, []
+
+    def look(wanted, *more):
+        nonlocal right
+        done = subprocess.run([program, *settings, *more, path], stdin=subprocess.DEVNULL, capture_output=True, text=True)
+        if (done.returncode, done.stdout, done.stderr) == wanted:
+            right += 1
+        else:
+            wrong.append(f"{line}, {more}: status {done.returncode}, {len(done.stdout)} bytes for {len(wanted[1])}; {done.stderr[:300]}")
+
+    for workers in ("1", "2", "3", "8"):
+        look((status, words, ""), "--workers", workers)
+    look((status, "", ""), "--workers", "4", "-q")
+    # The end, cut at each of its last bytes: what one worker answers is what several do.
+    for by in range(1, 30):
+        path.write_bytes(text[:-by])
+        done = subprocess.run([program, "seq", *options.split(), "--workers", "1", path], capture_output=True, text=True)
+        look((done.returncode, done.stdout, ""), "--workers", "4")
+    return right, wrong
+
+
 def main():
     room = pathlib.Path("texts")
-    room.mkdir()
+    room.mkdir(exist_ok=True)
     right, wrong = 0, []
     for line in sys.stdin.read().splitlines():
-        more, differences = compare(sys.argv[1], room, line)
+        more, differences = {"check": compare, "seq": compare_sequences}[sys.argv[2]](sys.argv[1], room, line)
         right += more
         wrong += differences
     print(*wrong, sep="\n", end="\n" if wrong else "")

@@ -1,6 +1,7 @@
 #!/usr/bin/env bash
-# `check FILE..` by several workers, which read a regular file at offsets, each for itself. Texts are made of sizes around the borders
-# between what workers read, and cut and damaged there: each answer is what the text was made for, and what one worker answers.
+# `check FILE..` and `seq FILE..` by several workers, which read a regular file at offsets, each for itself. Texts are made of sizes around
+# the borders between what workers read, and cut and damaged there: each answer is what the text was made for, and what one worker answers.
+# So it is of sequences, whose elements lie across all borders.
 . "$(dirname "$0")/lib.sh"
 
 # BYTES OF A PIECE | PIECES OF A TEXT | TEXTS | WHAT BECOMES OF EACH | OPTIONS. A `-` is the size without --piece. Each number of pieces
@@ -32,9 +33,51 @@ LINES
 
 each_text_is_answered_as_it_was_made() {
     local told
-    told=$(texts | python3 "$root/tests/by_offsets.py" "$program" 2>&1)
+    told=$(texts | python3 "$root/tests/by_offsets.py" "$program" check 2>&1)
     has "$told" ' 0 wrong' " ${told##*, }"
     if [[ $told =~ ([0-9]+)\ right ]]; then passed=$((passed + BASH_REMATCH[1])); fi
+}
+
+# BYTES OF A PIECE | BYTES | WHAT STANDS BEFORE THE FIRST SEPARATOR, or `-` | ELEMENTS IN TURN | OPTIONS. A file is read at offsets from a MiB on.
+sequences() {
+    cat <<'LINES'
+1 | 1048576 | - | object nothing number cut bad |
+7 | 1048600 | - | object nothing number cut bad feeds |
+7 | 1048600 | 1 | nothing nothing number nothing |
+64 | 1048580 | - | object ended blank bad cut number nothing |
+64 | 1048580 | x | object |
+1000 | 1100000 | - | object deep ended nothing | --depth 2
+1000 | 1100000 | - | long object number |
+4096 | 1500000 | - | object bad feeds ended |
+4096 | 1048576 | - | nothing |
+262144 | 3000000 | 1 | long number object |
+- | 5000000 | - | object ended feeds |
+- | 9000000 | - | long long object number |
+1073741824 | 2000000 | - | object number |
+LINES
+}
+
+each_sequence_is_answered_as_it_was_made() {
+    local told
+    told=$(sequences | python3 "$root/tests/by_offsets.py" "$program" seq 2>&1)
+    has "$told" ' 0 wrong' " ${told##*, }"
+    if [[ $told =~ ([0-9]+)\ right ]]; then passed=$((passed + BASH_REMATCH[1])); fi
+}
+
+# A file without a separator, and one whose last bytes go.
+a_sequence_may_have_one_element_or_none() {
+    local workers
+    head -c 2000000 /dev/zero | tr '\0' ' ' >blanks
+    { printf '\036['; cat blanks; printf ']'; } >one
+    for workers in 1 2 4 64; do
+        same "no separator, $workers workers" '1 | 0..2000000 unmarked |' "$("$program" seq --workers $workers blanks >out; echo "$? | $(flat <out) |")"
+        same "one element, $workers workers" '0 | 1..2000003 accepted |' "$("$program" seq --workers $workers one >out; echo "$? | $(flat <out) |")"
+        same "names, $workers workers" 'one: 1..2000003 accepted' "$("$program" seq -H --workers $workers one)"
+        same "a mark is ignored, $workers workers" '4..2000006 accepted' "$({ printf '\357\273\277'; cat one; } >marked; "$program" seq --ignore-bom --workers $workers marked)"
+        same "a mark is none, $workers workers" '0..3 unmarked 4..2000006 accepted' "$("$program" seq --workers $workers marked | flat)"
+        same "unique names, $workers workers" '1..2000016 repeated name at 2000009' \
+            "$({ printf '\036['; cat blanks; printf '{"a":1,"a":2}]'; } >names; "$program" seq --unique-names --workers $workers names)"
+    done
 }
 
 # FILES | OPTIONS | STATUS | OUTPUT, with a space for each line's end | ERRORS, so too
@@ -109,4 +152,4 @@ what_is_no_regular_file_is_read_as_a_stream() {
 }
 
 make_files
-tests each_text_is_answered_as_it_was_made each_call_is_answered_as_its_line_says what_is_no_regular_file_is_read_as_a_stream
+tests each_text_is_answered_as_it_was_made each_sequence_is_answered_as_it_was_made a_sequence_may_have_one_element_or_none each_call_is_answered_as_its_line_says what_is_no_regular_file_is_read_as_a_stream

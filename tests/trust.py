@@ -35,7 +35,7 @@ ALL = without("", "")
 # Each part of the page: its heading, the calls that it is about, and the cases that are left out.
 COMMANDS = {
     "`jx check`": (REPORT, without("Index At Seq")),
-    "`check` of a file by several workers": ({"jx_parallel_report/src/reporting": ["report_at"]}, without("Index At Seq")),
+    "`check` or `seq` of a file by several workers": ({"jx_parallel_report/src/reporting": ["report_at"]}, without("Index At")),
     "`--unique-names`": (REPORT, without("Index At Seq", "Any")),
     "`index`": (REPORT, without("Check At Seq")),
     "`at`": (REPORT, without("Check Index Seq")),

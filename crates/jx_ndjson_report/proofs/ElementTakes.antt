@@ -148,7 +148,7 @@ not_refused settings input p (element.Refused refusal) any h = refl
 not_refused settings input p element.MayBeCut any h = refl
 not_refused settings input p element.Unmarked any h = refl
 
-by_names : (settings : Settings) (input : List ℕ) → settings.names ≡ Any → (ps : List Part) (js : List JudgedElement) → AllZip (IsJudgedElement settings.depth) ps js → AllZip (IsJudgedBy settings input) ps js
+pub by_names : (settings : Settings) (input : List ℕ) → settings.names ≡ Any → (ps : List Part) (js : List JudgedElement) → AllZip (IsJudgedElement settings.depth) ps js → AllZip (IsJudgedBy settings input) ps js
 by_names settings input any [] [] h = tt
 by_names settings input any [] (j ∷ js) h = absurd h
 by_names settings input any (p ∷ ps) [] h = absurd h
@@ -157,7 +157,7 @@ by_names settings input any (p ∷ ps) (j ∷ js) h = (
   by_names settings input any ps js h.1,
 )
 
-same_lines : (js : List JudgedElement) → flat_map (element_line []) js ≡ judged_lines js
+pub same_lines : (js : List JudgedElement) → flat_map (element_line []) js ≡ judged_lines js
 unfolding judged_lines
 same_lines [] = refl
 same_lines (j ∷ js) = ap (λ (xs : List ℕ). judged_line j ++ xs) (same_lines js)
@@ -172,7 +172,7 @@ unfolding exit_past_all exit_past_judged
 exits_same exit [] = refl
 exits_same exit (e ∷ es) = exits_same (exit_past exit e.answer) es
 
-judged_output : (input : List ℕ) (settings : Settings) (js : List JudgedElement) → AreJudgedBy settings input js → Output Seq settings input (judged_lines js) (exit_past_judged Good js)
+pub judged_output : (input : List ℕ) (settings : Settings) (js : List JudgedElement) → AreJudgedBy settings input js → Output Seq settings input (judged_lines js) (exit_past_judged Good js)
 judged_output input settings js h =
     let a = all_answered (IsJudgedBy settings input) (IsElementBy settings input) (λ p j. answered_by input p settings j) (elements_by settings.mark input) js h in (
       a.0,

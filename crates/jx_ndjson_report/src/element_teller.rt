@@ -29,7 +29,7 @@ fn add_told(
 }
 
 /// Bad where the element is not accepted, and otherwise the exit that there was before it.
-fn exit_past(exit: Exit, verdict: ElementVerdict) -> Exit
+pub fn exit_past(exit: Exit, verdict: ElementVerdict) -> Exit
     ensures { result ≡ exit_past_verdict exit verdict }
 {
     match verdict {

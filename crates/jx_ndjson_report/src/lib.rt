@@ -11,6 +11,8 @@ mod task;
 mod teller;
 mod words;
 
+pub use element_teller::exit_past;
 pub use laws::elements_are_told_as_by_seq;
 pub use reporting::{report_lines, report_sequence};
 pub use task::{BlankRule, ElementsTask, LineForm, LinesTask};
+pub use words::add_element;

@@ -232,7 +232,7 @@ fn add_element_verdict(out: &mut Vec<u8>, verdict: ElementVerdict) -> Result<(),
 }
 
 /// Appends the report on an element.
-pub(crate) fn add_element(
+pub fn add_element(
     out: &mut Vec<u8>,
     front: &[u8],
     element: JudgedElement,

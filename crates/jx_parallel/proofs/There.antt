@@ -1,8 +1,9 @@
 -- Parts of a known text side by side.
 use Rattle.std.proofs.Common.{◌≡◌, ℕ, ◌+◌, ◌-◌, ◌≤◌, List, ◌++◌, length, length-append, take, sym, ap, ◌∙◌, subst, arith, take_all}
 use Rattle.std.specs.Prelude.{slice_range, Option, None, Some}
-use Rattle.jx_parallel.specs.Offsets.{StandThere}
-use Rattle.jx_parallel.proofs.Ranges.{range_split}
+use Rattle.jx_parallel.specs.Offsets.{EndsBefore, IsContent, StandThere}
+use Rattle.std.proofs.lemmas.List.Edits.{length-between}
+use Rattle.jx_parallel.proofs.Ranges.{inner_range, range_split}
 
 -- what stands there, and behind it what stands there, is both of them
 pub both_there : (known : Option (List ℕ)) (at : ℕ) (xs ys : List ℕ) → StandThere known at xs → StandThere known (at + length xs) ys → StandThere known at (xs ++ ys)
@@ -29,3 +30,19 @@ pub all_there : (ks xs : List ℕ) → StandThere (Some ks) 0 xs → length ks �
 all_there ks xs there long =
     let n : 0 + length xs ≡ length xs = omega arith in
     sym there ∙ ap (λ k. slice_range ks 0 k) n ∙ whole_range ks (length xs) long
+
+-- a part of what stands there stands there too
+pub inner_there : (known : Option (List ℕ)) (at : ℕ) (bytes : List ℕ) (i j : ℕ) → i ≤ j → j ≤ length bytes → StandThere known at bytes → StandThere known (at + i) (slice_range bytes i j)
+inner_there None at bytes i j ij high there = there
+inner_there (Some ks) at bytes i j ij high there =
+    let len : length (slice_range bytes i j) ≡ j - i = length-between bytes i j high in
+    let end : (at + i) + length (slice_range bytes i j) ≡ at + j = omega (arith, len, ij) in
+    let most : (at + length bytes) - at ≡ length bytes = omega arith in
+    ap (λ n. slice_range ks (at + i) n) end
+    ∙ sym (inner_range ks at (at + length bytes) i j ij (omega (arith, high, most)))
+    ∙ ap (λ (l : List ℕ). slice_range l i j) there
+
+-- bytes that stand in front, and behind which the text ends, are all of it
+pub is_whole : (known : Option (List ℕ)) (bytes : List ℕ) → StandThere known 0 bytes → EndsBefore known (length bytes) → IsContent known bytes
+is_whole None bytes there end = tt
+is_whole (Some ks) bytes there end = all_there ks bytes there end

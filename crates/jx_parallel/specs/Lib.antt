@@ -1,4 +1,5 @@
 pub mod Faults
 pub mod Offsets
+pub mod Parts
 pub mod Verdict
 pub mod inside

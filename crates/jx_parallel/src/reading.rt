@@ -13,7 +13,7 @@ use std::alloc::Global;
 use std::sync::Wait;
 
 /// Reads into the buffer from an offset on, once.
-fn read_some<F: SharedAt>(
+pub(crate) fn read_some<F: SharedAt>(
     file: &F,
     buffer: &mut [u8],
     at: usize,

@@ -17,7 +17,7 @@ use std::sync::Wait;
 const MOST: u64 = 16;
 
 /// A buffer for a piece.
-fn buffer_for(alloc: Global, pieces: &Pieces) -> Result<Vec<u8>, AllocError> {
+pub(crate) fn buffer_for(alloc: Global, pieces: &Pieces) -> Result<Vec<u8>, AllocError> {
     let mut buffer = Vec::new(alloc);
     buffer.resize(pieces.bytes(1), 0)?;
     Ok(buffer)

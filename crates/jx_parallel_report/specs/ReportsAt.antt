@@ -3,18 +3,28 @@ use Rattle.std.specs.Prelude.{◌≡◌, ℕ, List, Option, ⊤}
 use Rattle.std.specs.Io.KnownBytes.{Appends}
 use Rattle.jx_ends.specs.declared.exit.Exit.{Exit}
 use Rattle.jx_ends.specs.Ends.{AppendsBeginning}
+use Rattle.jx_run.specs.declared.texts.settings.FrontMark.{FrontMark}
+use Rattle.jx_run.specs.declared.texts.settings.FrontMark.TheVariants.{Refused}
 use Rattle.jx_run.specs.declared.texts.settings.NameRule.TheVariants.{Any}
 use Rattle.jx_task.specs.declared.command.Command.{Command}
-use Rattle.jx_task.specs.declared.task.Task.TheVariants.{Check}
+use Rattle.jx_task.specs.declared.task.Task.{Task}
+use Rattle.jx_task.specs.declared.task.Task.TheVariants.{Check, Index, At, Seq}
 use Rattle.jx_words.specs.Verdicts.{shown_output}
 use Rattle.jx_report.specs.Output.{Output}
 use Rattle.jx_parallel.specs.Offsets.{IsContent}
 use Rattle.jx_parallel_report.specs.declared.report_at_fault.ReportAtFault.{ReportAtFault}
 use Rattle.jx_parallel_report.specs.declared.report_at_fault.ReportAtFault.TheVariants.{Memory, Read, Write}
 
--- it asks for the verdict on a text whose objects may have any names
+-- it asks for the verdict on a text, or for those on the elements of a sequence in front of which no byte order mark is ignored
+abbrev pub IsSharedTask : Task → FrontMark → Type 0
+IsSharedTask Check mark = ⊤
+IsSharedTask Seq mark = mark ≡ Refused
+IsSharedTask Index mark = ⊥
+IsSharedTask (At pointers) mark = ⊥
+
+-- the same where objects may have any names
 abbrev pub IsShared : Command → Type 0
-IsShared command = (command.task ≡ Check) × (command.settings.names ≡ Any)
+IsShared command = (command.settings.names ≡ Any) × IsSharedTask command.task command.settings.mark
 
 -- the writer got the whole output for a text, or nothing where the command is quiet; where the content is known, that is the text
 pub record ReportsAt (command : Command) (known written grown : Option (List ℕ)) (exit : Exit) : Type 0 where

@@ -4,21 +4,21 @@ use Rattle.jx_ends.specs.declared.exit.Exit.{Exit}
 use Rattle.jx_words.specs.Verdicts.{ByVerdict, SaysAccepted, shown_output}
 use Rattle.jx_parallel_report.specs.ReportsAt.{ReportsAt}
 use Rattle.jx_parallel_report.proofs.Outputs.{carried, output_of_verdict, unread}
-use Rattle.jx_parallel_report.proofs.reporting.report_at.Goals as goal
+use Rattle.jx_parallel_report.proofs.reporting.report_verdict.Goals as goal
 
 pub returns-in-Ok-clause-ok : goal.returns-in-Ok-clause-ok
 returns-in-Ok-clause-ok g c =
     let command = c.args.command.now in
     let verdict = c.in-Ok.verdict in
     let on = c.in-Ok.ensures.ok in
-    let judged = (c.any_names_change_nothing.ensures.verdict command.settings on.text verdict c.requires.shared.1).1 on.judged in
+    let judged = (c.any_names_change_nothing.ensures.verdict command.settings on.text verdict c.requires.names).1 on.judged in
     carried (λ (exit : Exit). (output : List ℕ) × (ByVerdict SaysAccepted verdict output exit × Appends (g.W.Sink.contents c.args.writer.now) (g.W.Sink.contents c.show.new.writer) (shown_output command.quiet output)))
     (ReportsAt command (g.F.SharedAt.content c.args.file.now) (g.W.Sink.contents c.args.writer.now) (g.W.Sink.contents c.show.new.writer)) c.show.result c.show.ensures.ok
     (λ exit said. record {
       text = on.text;
       output = said.0;
       whole = on.whole;
-      answer = output_of_verdict command.task command.settings on.text verdict said.0 exit c.requires.shared.0 judged said.1.0;
+      answer = output_of_verdict command.task command.settings on.text verdict said.0 exit c.requires.task judged said.1.0;
       wrote = said.1.1;
     })
 
@@ -27,14 +27,14 @@ returns-in-Ok-clause-beginning g c = λ is.
     let command = c.args.command.now in
     let verdict = c.in-Ok.verdict in
     let on = c.in-Ok.ensures.ok in
-    let judged = (c.any_names_change_nothing.ensures.verdict command.settings on.text verdict c.requires.shared.1).1 on.judged in
+    let judged = (c.any_names_change_nothing.ensures.verdict command.settings on.text verdict c.requires.names).1 on.judged in
     let said = c.show.ensures.beginning is in
     record {
       text = on.text;
       output = said.1.0;
       exit = said.0;
       whole = on.whole;
-      answer = output_of_verdict command.task command.settings on.text verdict said.1.0 said.0 c.requires.shared.0 judged said.1.1.0;
+      answer = output_of_verdict command.task command.settings on.text verdict said.1.0 said.0 c.requires.task judged said.1.1.0;
       wrote = said.1.1.1;
     }
 

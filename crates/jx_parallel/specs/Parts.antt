@@ -1,0 +1,18 @@
+-- A reading that goes on in a text, part by part.
+use Rattle.std.specs.Prelude.{ℕ, List, ◌++◌, Option}
+use Rattle.jx_parallel.specs.Offsets.{IsContent, StandThere}
+
+-- what a reader has read, and what was given of what is told of that
+abbrev pub Readings : Type 0 → Type 1
+Readings Reader = List ℕ → List ℕ → Reader → Type 0
+
+-- whatever it had read from a text's start, it has read some bytes more; where the text is known, they are those that come next
+abbrev pub GoesOn : {Reader : Type 0} → Option (List ℕ) → Readings Reader → Reader → Reader → Type 0
+GoesOn known has_read old new =
+    (xs given : List ℕ) → StandThere known 0 xs → has_read xs given old → (more : List ℕ) × StandThere known 0 (xs ++ more) × has_read (xs ++ more) given new
+
+-- it has read a whole text; where the content is known, that is the text
+pub record HasReadAll {Reader : Type 0} (known : Option (List ℕ)) (has_read : List ℕ → Reader → Type 0) (reader : Reader) : Type 0 where
+  pub text : List ℕ
+  pub whole : IsContent known text
+  pub read : has_read text reader
