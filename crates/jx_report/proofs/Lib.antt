@@ -1,8 +1,10 @@
 mod Answers
 pub mod AnyNames
 mod BatchSteps
+pub mod Columns
 mod ElementSteps
 mod FirstBytes
+mod LineEnds
 mod OneOutput
 mod RowSteps
 mod SequenceSteps

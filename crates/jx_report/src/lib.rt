@@ -2,8 +2,10 @@
 #![tactic(auto)]
 
 mod answering;
+mod column;
 mod element_words;
 mod laws;
+mod line_end;
 mod name_check;
 mod pointer_answers;
 mod pointer_reader;

@@ -11,7 +11,7 @@ ghost use Rattle.jx_report.specs.RowWords.{row_lines};
 
 use crate::element_words::{element_at, push_element};
 use crate::reply::Reply;
-use crate::row_words::push_row;
+use crate::row_words::RowColumns;
 use jx_ends::{Exit, ReportFault, Sink, write_whole};
 use jx_index::Row;
 use jx_run::JudgedElement;
@@ -47,9 +47,10 @@ fn write_rows<W: Sink>(writer: &mut W, out: &mut Vec<u8>, rows: &[Row]) -> Resul
     ensures fault { IfErr result (λ fault. fault ≡ ReportFault.Write) }
     ensures failed { W.has_failed writer.new ≡ is_err result }
 {
+    let mut columns = RowColumns::new();
     for number in 0..rows.len() {
         make_room(writer, out)?;
-        push_row(out, number, &rows[number]);
+        columns.push_row(out, number, &rows[number]);
     }
     Ok(())
 }
