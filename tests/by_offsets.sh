@@ -41,7 +41,7 @@ each_text_is_answered_as_it_was_made() {
 # BYTES OF A PIECE | BYTES | WHAT STANDS BEFORE THE FIRST SEPARATOR, or `-` | ELEMENTS IN TURN | OPTIONS. A file is read at offsets from a MiB on.
 sequences() {
     cat <<'LINES'
-1 | 1048576 | - | object nothing number cut bad |
+2 | 1048576 | - | object nothing number cut bad |
 7 | 1048600 | - | object nothing number cut bad feeds |
 7 | 1048600 | 1 | nothing nothing number nothing |
 64 | 1048580 | - | object ended blank bad cut number nothing |
@@ -76,7 +76,7 @@ a_sequence_may_have_one_element_or_none() {
         same "a mark is ignored, $workers workers" '4..2000006 accepted' "$({ printf '\357\273\277'; cat one; } >marked; "$program" seq --ignore-bom --workers $workers marked)"
         same "a mark is none, $workers workers" '0..3 unmarked 4..2000006 accepted' "$("$program" seq --workers $workers marked | flat)"
         same "unique names, $workers workers" '1..2000016 repeated name at 2000009' \
-            "$({ printf '\036['; cat blanks; printf '{"a":1,"a":2}]'; } >names; "$program" seq --unique-names --workers $workers names)"
+            "$({ printf '\036['; cat blanks; printf '{"a":1,"a":2}]'; } >repeats; "$program" seq --unique-names --workers $workers repeats)"
     done
 }
 

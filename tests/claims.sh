@@ -15,8 +15,10 @@ jx.1 | Of one FILE each worker reads pieces of 256 KiB for itself, and one alone
 jx.1 | Of one FILE each worker reads pieces of 256 KiB for itself, and one alone the first MiB. | threads 1 - | text.20000000 | check
 jx.1 | So their workers share an input of some 5.25 MiB or more. | threads 0 0 | cat text.5505023 | check
 jx.1 | So their workers share an input of some 5.25 MiB or more. | threads 4 4 | cat text.5505024 | check
-jx.1 | So workers share an input of some 5.25 MiB or more. | threads 0 0 | cat seq.5500000 | seq -q
-jx.1 | So workers share an input of some 5.25 MiB or more. | threads 4 4 | cat seq.5510000 | seq -q
+jx.1 | So workers share such an input of some 5.25 MiB or more. | threads 0 0 | cat seq.5500000 | seq -q
+jx.1 | So workers share such an input of some 5.25 MiB or more. | threads 4 4 | cat seq.5510000 | seq -q
+jx.1 | Of one FILE each worker reads pieces of 256 KiB for itself, from a MiB on. | threads 0 0 | seq.1000000 | seq -q
+jx.1 | Of one FILE each worker reads pieces of 256 KiB for itself, from a MiB on. | threads 4 - | seq.5510000 | seq -q
 jx.1 | With --piece above 131072 they share a MiB or more. | threads 0 0 | cat text.1048575 | check --piece 131073
 jx.1 | With --piece above 131072 they share a MiB or more. | threads 4 4 | cat text.1048576 | check --piece 131073
 jx.1 | They share a text from a MiB on. One worker reads a text with --unique-names. | threads 0 0 | text.1048575 | explain

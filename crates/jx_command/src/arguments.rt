@@ -3,20 +3,20 @@ ghost use Rattle.std.specs.Prelude.{◌≤◌, IfOk, IfSome};
 ghost use Rattle.jx_command.specs.Orders.{HasPieces};
 
 use crate::arg_fault::ArgFault;
-use crate::each_arguments::{EACH, each_order_from};
+use crate::called::Called;
+use crate::command_rows::called_by;
+use crate::each_arguments::each_order_from;
 use crate::grammar::grammar;
 use crate::inputs::{Input, Inputs, inputs_of, named_inputs_of, reads_standard_twice};
-use crate::lines_arguments::{LINES, lines_order_from};
+use crate::lines_arguments::lines_order_from;
 use crate::live_arguments::{is_live, live_order_from};
 use crate::options::{depth_of, progress_of};
 use crate::order::Order;
-use crate::parts_arguments::parts_order_from;
-use crate::parts_command::PartsCommand;
+use crate::parts_arguments::{join_order_from, part_order_from, whole_order_from};
 use crate::request::{Color, Request, TellAccepted, Told};
-use crate::save_arguments::{SAVE, save_order_from};
-use crate::split_arguments::{SPLIT, split_order_from};
-use crate::subcommand::Subcommand;
-use crate::values_arguments::{GET, values_order_from};
+use crate::save_arguments::save_order_from;
+use crate::split_arguments::split_order_from;
+use crate::values_arguments::values_order_from;
 use clap::ArgMatches;
 use clap::error::ErrorKind;
 use jx_crew::Workers;
@@ -87,51 +87,27 @@ pub(crate) fn pointers_of(
     Ok(pointers)
 }
 
-/// The task of a subcommand, with the pointers that its options have where it is `at`.
-fn task_of(
-    alloc: Global,
-    called: Subcommand,
-    options: &ArgMatches<'_>,
-) -> Result<Task, AllocError> {
-    match called {
-        Subcommand::Check | Subcommand::Explain => Ok(Task::Check),
-        Subcommand::Index => Ok(Task::Index),
-        Subcommand::At => Ok(Task::At(pointers_of(alloc, options)?)),
-        Subcommand::Seq => Ok(Task::Seq),
-    }
-}
-
-/// The command of a subcommand and its options. The grammar has a number for each option that the words leave out, so that
-/// what stands here where there is none is never met.
-fn command_from(
-    alloc: Global,
-    called: Subcommand,
-    options: &ArgMatches<'_>,
-) -> Result<Command, AllocError>
-    ensures { IfOk result (λ command. 1 ≤ command.piece) }
+/// The command of these options. The grammar has a number for each option that the words leave out, so that what stands here
+/// where there is none is never met.
+fn command_from(task: Task, options: &ArgMatches<'_>) -> Command
+    ensures { 1 ≤ result.piece }
 {
     let one_worker = Workers::new(1).unwrap();
-    Ok(Command {
-        task: task_of(alloc, called, options)?,
+    Command {
+        task,
         settings: settings_of(options),
         workers: workers_of(options).unwrap_or(one_worker),
         piece: piece_of(options).unwrap_or(1),
         quiet: options.get_flag("quiet") || options.get_flag("list"),
-    })
+    }
 }
 
-/// The words that a subcommand is given for what is read, where they may be several or none.
-fn words_of<'a>(
+/// The words for what is read, where they may be several or none.
+pub(crate) fn words_of<'a>(
     alloc: Global,
-    called: Subcommand,
     options: &ArgMatches<'a>,
 ) -> Result<Vec<&'a str>, AllocError> {
-    match called {
-        Subcommand::At => Ok(Vec::new(alloc)),
-        Subcommand::Check | Subcommand::Explain | Subcommand::Index | Subcommand::Seq => {
-            Vec::from_slice(alloc, options.get_strs("files").unwrap_or(&[]))
-        }
-    }
+    Vec::from_slice(alloc, options.get_strs("files").unwrap_or(&[]))
 }
 
 /// A word that names the file of an option, also where that would name standard input as a word.
@@ -170,22 +146,6 @@ pub(crate) fn inputs_named<'a>(
     }
 }
 
-/// The file of pointers that a subcommand is given, if it takes one.
-fn pointers_file_of<'a>(called: Subcommand, options: &ArgMatches<'a>) -> Option<&'a str> {
-    match called {
-        Subcommand::At => options.get_str("pointers_file"),
-        Subcommand::Check | Subcommand::Explain | Subcommand::Index | Subcommand::Seq => None,
-    }
-}
-
-/// The file of an index that a subcommand is given, if it takes one.
-fn index_file_of<'a>(called: Subcommand, options: &ArgMatches<'a>) -> Option<&'a str> {
-    match called {
-        Subcommand::At => options.get_str("index"),
-        Subcommand::Check | Subcommand::Explain | Subcommand::Index | Subcommand::Seq => None,
-    }
-}
-
 /// Whether what is told to people has colors by the options.
 fn color_of(options: &ArgMatches<'_>) -> Color {
     match options.get_str("color") {
@@ -218,83 +178,94 @@ pub(crate) fn format_of(options: &ArgMatches<'_>) -> Told {
     }
 }
 
-/// How the answer of a subcommand is told.
-fn told_by(called: Subcommand, options: &ArgMatches<'_>) -> Told {
-    match called {
-        Subcommand::Explain => Told::Explained(color_of(options), accepted_of(options)),
-        Subcommand::Check => format_of(options),
-        Subcommand::Index | Subcommand::At | Subcommand::Seq => Told::Lines,
-    }
+/// How the answer for people is reported by the options.
+fn explained_by(options: &ArgMatches<'_>) -> Told {
+    Told::Explained(color_of(options), accepted_of(options))
 }
 
-/// What a subcommand and its options ask for.
-fn request_from<'a>(
+/// The report that a task and these options ask for.
+fn report_order<'a>(
     alloc: Global,
-    called: Subcommand,
-    options: &ArgMatches<'a>,
-) -> Result<Request<'a>, ArgFault>
-    ensures { IfOk result (λ r. 1 ≤ r.command.piece) }
-{
-    let Ok(command) = command_from(alloc, called, options) else {
-        return Err(ArgFault::Memory);
-    };
-    Ok(Request {
-        command,
-        inputs: inputs_named(options, words_of(alloc, called, options))?,
-        pointers: pointers_file_of(called, options),
-        index: index_file_of(called, options),
-        told: told_by(called, options),
-        progress: progress_of(options),
-    })
-}
-
-/// What a name and its options ask for. The name of a subcommand calls it, and any other one calls `check`.
-fn order_from<'a>(
-    alloc: Global,
-    name: &str,
+    task: Task,
+    told: Told,
     options: &ArgMatches<'a>,
 ) -> Result<Order<'a>, ArgFault>
     ensures { IfOk result HasPieces }
 {
-    if let Some(called) = PartsCommand::named(name) {
-        return Ok(Order::Parts(parts_order_from(called, options)));
+    Ok(Order::Report(Request {
+        command: command_from(task, options),
+        inputs: inputs_named(options, words_of(alloc, options))?,
+        pointers: options.get_str("pointers_file"),
+        index: options.get_str("index"),
+        told,
+        progress: progress_of(options),
+    }))
+}
+
+/// The look-up that these options ask for.
+fn look_up_order<'a>(alloc: Global, options: &ArgMatches<'a>) -> Result<Order<'a>, ArgFault>
+    ensures { IfOk result HasPieces }
+{
+    match pointers_of(alloc, options) {
+        Ok(pointers) => report_order(alloc, Task::At(pointers), Told::Lines, options),
+        Err(_) => Err(ArgFault::Memory),
     }
-    if name == EACH {
-        return Ok(Order::Each(each_order_from(options)));
-    }
-    if name == LINES {
-        return Ok(Order::Lines(lines_order_from(alloc, options)?));
-    }
-    if name == GET {
-        return match values_order_from(alloc, options) {
-            Ok(order) => Ok(Order::Values(order)),
-            Err(_) => Err(ArgFault::Memory),
-        };
-    }
-    if name == SAVE {
-        return Ok(Order::Save(save_order_from(options)?));
-    }
-    if name == SPLIT {
-        return Ok(Order::Split(split_order_from(options)));
-    }
+}
+
+/// What is asked of a sequence by these options.
+fn sequence_order<'a>(alloc: Global, options: &ArgMatches<'a>) -> Result<Order<'a>, ArgFault>
+    ensures { IfOk result HasPieces }
+{
     if is_live(options) {
         return Ok(Order::Live(live_order_from(alloc, options)?));
     }
-    let called = Subcommand::named(name).unwrap_or(Subcommand::Check);
-    let request = request_from(alloc, called, options)?;
-    Ok(Order::Report(request))
+    report_order(alloc, Task::Seq, Told::Lines, options)
+}
+
+/// The values that these options ask for.
+fn values_order<'a>(alloc: Global, options: &ArgMatches<'a>) -> Result<Order<'a>, ArgFault>
+    ensures { IfOk result HasPieces }
+{
+    match values_order_from(alloc, options) {
+        Ok(order) => Ok(Order::Values(order)),
+        Err(_) => Err(ArgFault::Memory),
+    }
+}
+
+/// What a command and its options ask for.
+fn order_from<'a>(
+    alloc: Global,
+    called: Called,
+    options: &ArgMatches<'a>,
+) -> Result<Order<'a>, ArgFault>
+    ensures { IfOk result HasPieces }
+{
+    match called {
+        Called::Check => report_order(alloc, Task::Check, format_of(options), options),
+        Called::Explain => report_order(alloc, Task::Check, explained_by(options), options),
+        Called::Index => report_order(alloc, Task::Index, Told::Lines, options),
+        Called::At => look_up_order(alloc, options),
+        Called::Seq => sequence_order(alloc, options),
+        Called::Get => values_order(alloc, options),
+        Called::Each => Ok(Order::Each(each_order_from(options))),
+        Called::Lines => Ok(Order::Lines(lines_order_from(alloc, options)?)),
+        Called::Save => Ok(Order::Save(save_order_from(options)?)),
+        Called::Split => Ok(Order::Split(split_order_from(options))),
+        Called::Part => Ok(Order::Parts(part_order_from(options))),
+        Called::Join => Ok(Order::Parts(join_order_from(options))),
+        Called::Whole => Ok(Order::Parts(whole_order_from(options))),
+    }
 }
 
 /// What the words ask for, the first of which is the program's name. Each FILE and each POINTER are taken as they stand:
 /// they are not cut, trimmed or read. Where the words are no command, or ask for help or the version, `Err` has what is
-/// to be told.
+/// to be told. The grammar has no words without a command, so that what stands here for them is never met.
 pub fn command_of<'a>(alloc: Global, words: &'a [&'a str]) -> Result<Order<'a>, ArgFault>
     ensures { IfOk result HasPieces }
 {
     let grammar = grammar(alloc).map_err(|_| ArgFault::Memory)?;
     let matches = grammar.try_get_matches_from(words).map_err(refused)?;
-    let (name, options) = matches
-        .subcommand()
-        .unwrap_or((Subcommand::Check.name(), &matches));
-    order_from(alloc, name, options)
+    let (name, options) = matches.subcommand().unwrap_or(("check", &matches));
+    let called = called_by(name).unwrap_or(Called::Check);
+    order_from(alloc, called, options)
 }

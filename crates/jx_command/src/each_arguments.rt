@@ -8,9 +8,6 @@ use clap::ArgMatches;
 use jx_crew::Workers;
 use jx_run::{NameRule, Settings};
 
-/// The word that calls it.
-pub(crate) const EACH: &str = "each";
-
 /// What its options ask for. The grammar has a number for each option that the words leave out, so that what stands here
 /// where there is none is never met.
 pub(crate) fn each_order_from<'a>(options: &ArgMatches<'a>) -> EachOrder<'a>

@@ -154,8 +154,10 @@ bytes of text. One worker reads the text, looks up fewer pointers,
 looks up by --index, and answers with --lines.";
 
 pub const SEQ_WORKERS: &str = "Share the work among N workers, 1 to 64. The answer is the same for
-every number. They share the input from 5.25 MiB on. One worker reads
-with --live.";
+every number. Of one FILE each worker reads pieces of 256 KiB for
+itself, from a MiB on. Standard input and pipes, and any input with
+--ignore-bom or --unique-names, they share from 5.25 MiB on. One
+worker reads with --live.";
 
 pub const READ_WORKERS: &str = "Share the work among N workers, 1 to 64. The answer is the same for
 every number. They share what one read gives, from a MiB on.";

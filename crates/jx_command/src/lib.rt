@@ -2,21 +2,23 @@
 #![tactic(auto)]
 
 mod arg_fault;
+mod arg_row;
 mod arguments;
+mod called;
+mod command_rows;
 mod each_arguments;
 mod grammar;
 mod help;
 mod inputs;
 mod lines_arguments;
 mod live_arguments;
+mod option_rows;
 mod options;
 mod order;
 mod parts_arguments;
-mod parts_command;
 mod request;
 mod save_arguments;
 mod split_arguments;
-mod subcommand;
 mod values_arguments;
 
 pub use arg_fault::ArgFault;

@@ -2,16 +2,13 @@
 ghost use Rattle.std.specs.Prelude.{◌≤◌, IfOk};
 
 use crate::arg_fault::ArgFault;
-use crate::arguments::{format_of, inputs_named, mark_of, piece_of, workers_of};
+use crate::arguments::{format_of, inputs_named, mark_of, piece_of, words_of, workers_of};
 use crate::options::depth_of;
 use crate::order::LinesOrder;
 use clap::ArgMatches;
 use jx_crew::Workers;
 use jx_run::{NameRule, Settings};
 use std::alloc::Global;
-
-/// The word that calls it.
-pub(crate) const LINES: &str = "lines";
 
 /// What its options ask for. The grammar has a number for each option that the words leave out, so that what stands here
 /// where there is none is never met.
@@ -21,10 +18,9 @@ pub(crate) fn lines_order_from<'a>(
 ) -> Result<LinesOrder<'a>, ArgFault>
     ensures { IfOk result (λ order. 1 ≤ order.piece) }
 {
-    let words = Vec::from_slice(alloc, options.get_strs("files").unwrap_or(&[]));
     let one_worker = Workers::new(1).unwrap();
     Ok(LinesOrder {
-        inputs: inputs_named(options, words)?,
+        inputs: inputs_named(options, words_of(alloc, options))?,
         settings: Settings {
             depth: depth_of(options).unwrap_or_default(),
             mark: mark_of(options),

@@ -1,6 +1,6 @@
 // The words of the subcommand that judges elements, where they are told as they end.
 use crate::arg_fault::ArgFault;
-use crate::arguments::{inputs_named, mark_of};
+use crate::arguments::{inputs_named, mark_of, words_of};
 use crate::options::depth_of;
 use crate::order::LiveOrder;
 use clap::ArgMatches;
@@ -17,9 +17,8 @@ pub(crate) fn live_order_from<'a>(
     alloc: Global,
     options: &ArgMatches<'a>,
 ) -> Result<LiveOrder<'a>, ArgFault> {
-    let words = Vec::from_slice(alloc, options.get_strs("files").unwrap_or(&[]));
     Ok(LiveOrder {
-        inputs: inputs_named(options, words)?,
+        inputs: inputs_named(options, words_of(alloc, options))?,
         settings: Settings {
             depth: depth_of(options).unwrap_or_default(),
             mark: mark_of(options),

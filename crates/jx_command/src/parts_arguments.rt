@@ -1,7 +1,6 @@
-// The words of the subcommands that work on the parts of a text.
+// The words of the commands that work on the parts of a text.
 use crate::options::{depth_of, input_from};
 use crate::order::{PartsOrder, PartsStep};
-use crate::parts_command::PartsCommand;
 use clap::ArgMatches;
 
 /// The offset that an option names, if it is given.
@@ -10,29 +9,32 @@ fn offset_of(options: &ArgMatches<'_>, name: &str) -> Option<usize> {
     Some(offset as usize)
 }
 
-/// The step of a subcommand. The grammar has `--to` wherever it is asked for here.
-fn step_of(called: PartsCommand, options: &ArgMatches<'_>) -> PartsStep {
-    match called {
-        PartsCommand::Part => PartsStep::Part {
-            from: offset_of(options, "from"),
-        },
-        PartsCommand::Join => PartsStep::Join,
-        PartsCommand::Whole => PartsStep::Whole {
-            from: offset_of(options, "from").unwrap_or(0),
-            to: offset_of(options, "to").unwrap_or(0),
-            quiet: options.get_flag("quiet"),
-        },
-    }
-}
-
-/// What a subcommand and its options ask for.
-pub(crate) fn parts_order_from<'a>(
-    called: PartsCommand,
-    options: &ArgMatches<'a>,
-) -> PartsOrder<'a> {
+/// What is read, and how deep the whole text may be, for a step.
+fn parts_order<'a>(options: &ArgMatches<'a>, step: PartsStep) -> PartsOrder<'a> {
     PartsOrder {
         input: input_from(options),
         depth: depth_of(options).unwrap_or_default(),
-        step: step_of(called, options),
+        step,
     }
+}
+
+/// What the options of `part` ask for.
+pub(crate) fn part_order_from<'a>(options: &ArgMatches<'a>) -> PartsOrder<'a> {
+    let from = offset_of(options, "from");
+    parts_order(options, PartsStep::Part { from })
+}
+
+/// What the options of `join` ask for.
+pub(crate) fn join_order_from<'a>(options: &ArgMatches<'a>) -> PartsOrder<'a> {
+    parts_order(options, PartsStep::Join)
+}
+
+/// What the options of `whole` ask for. The grammar has both offsets.
+pub(crate) fn whole_order_from<'a>(options: &ArgMatches<'a>) -> PartsOrder<'a> {
+    let step = PartsStep::Whole {
+        from: offset_of(options, "from").unwrap_or(0),
+        to: offset_of(options, "to").unwrap_or(0),
+        quiet: options.get_flag("quiet"),
+    };
+    parts_order(options, step)
 }

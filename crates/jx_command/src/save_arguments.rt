@@ -6,9 +6,6 @@ use crate::order::SaveOrder;
 use clap::ArgMatches;
 use jx_saved::ChunkSize;
 
-/// The word that calls it.
-pub(crate) const SAVE: &str = "save";
-
 /// How many bytes a chunk has by the options, if they tell and it is one of its sizes.
 fn chunk_of(options: &ArgMatches<'_>) -> Option<ChunkSize> {
     let bytes: u32 = options.get_one::<u32>("chunk")?;

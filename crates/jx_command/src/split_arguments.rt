@@ -1,14 +1,9 @@
 // The words of the subcommand that tells the borders of parts.
 ghost use Rattle.std.specs.Prelude.{◌≤◌, IfSome};
 
+use crate::option_rows::MOST_PARTS;
 use crate::order::SplitOrder;
 use clap::ArgMatches;
-
-/// The word that calls it.
-pub(crate) const SPLIT: &str = "split";
-
-/// How many parts there may be.
-pub(crate) const MOST_PARTS: u64 = 65_536;
 
 /// How many parts the options ask for, if they tell and there may be as many.
 fn parts_of(options: &ArgMatches<'_>) -> Option<usize>

@@ -9,9 +9,6 @@ use jx_crew::Workers;
 use jx_task::ValuesTask;
 use std::alloc::{AllocError, Global};
 
-/// The word that calls it.
-pub(crate) const GET: &str = "get";
-
 /// How the lines of what is read are answered by the options, if they are to be.
 fn by_line_from(options: &ArgMatches<'_>) -> Option<ByLine> {
     if options.get_flag("by_line") {

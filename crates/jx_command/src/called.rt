@@ -1,0 +1,18 @@
+// The commands, by which rows of data and orders name them.
+
+#[derive(Clone, Copy)]
+pub(crate) enum Called {
+    Check,
+    Explain,
+    Index,
+    At,
+    Get,
+    Each,
+    Seq,
+    Lines,
+    Save,
+    Split,
+    Part,
+    Join,
+    Whole,
+}
