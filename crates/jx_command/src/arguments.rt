@@ -32,6 +32,30 @@ fn refused(error: clap::Error) -> ArgFault {
     }
 }
 
+/// The fault of words whose first one is not a command: it names the commands that are spelled nearly so.
+fn fault_of_command(alloc: Global, words: &[&str]) -> Option<clap::Error> {
+    let grammar = grammar(alloc).ok()?;
+    let error = grammar.try_get_matches_from(words).err()?;
+    if error.kind() != ErrorKind::InvalidSubcommand {
+        return None;
+    }
+    Some(error)
+}
+
+/// The fault of words, by clap's error. If they ask for help on a word that is not a command, it is that of this word as a command.
+fn fault_of(alloc: Global, words: &[&str], error: clap::Error) -> ArgFault {
+    match words {
+        [program, help, topic, ..]
+            if *help == "help" && error.kind() == ErrorKind::InvalidSubcommand => {
+            match fault_of_command(alloc, &[*program, *topic]) {
+                Some(nearer) => refused(nearer),
+                None => refused(error),
+            }
+        }
+        _ => refused(error),
+    }
+}
+
 /// Whether a byte order mark is ignored or refused by the options.
 pub(crate) fn mark_of(options: &ArgMatches<'_>) -> FrontMark {
     if options.get_flag("ignore_bom") {
@@ -264,7 +288,9 @@ pub fn command_of<'a>(alloc: Global, words: &'a [&'a str]) -> Result<Order<'a>, 
     ensures { IfOk result HasPieces }
 {
     let grammar = grammar(alloc).map_err(|_| ArgFault::Memory)?;
-    let matches = grammar.try_get_matches_from(words).map_err(refused)?;
+    let matches = grammar
+        .try_get_matches_from(words)
+        .map_err(|error| fault_of(alloc, words, error))?;
     let (name, options) = matches.subcommand().unwrap_or(("check", &matches));
     let called = called_by(name).unwrap_or(Called::Check);
     order_from(alloc, called, options)
