@@ -47,6 +47,8 @@ changes_are_followed() {
 lines_are_told() {
     local told='500 changes are told as jx lines tells them' language name wanted options text count
     same 'random changes of JSON Lines' "$(printf '%s\n' "$told" "$told" "$told" "$told")" "$(played replays_of_lines 2000)"
+    told='100 changes are told as jx lines tells them'
+    same 'random changes of long JSON Lines' "$(printf '%s\n' "$told" "$told" "$told")" "$(played replays_of_long_lines 300)"
     while read -r language name wanted; do
         same "the language $language of $name" "$wanted" "$(played content_of "$language" "$name")"
     done <<'LANGUAGES'

@@ -28,7 +28,6 @@ long.json | check
 cat long.json | check
 cat long.json | check --format json
 none | check long.json
-none | check --progress always long.json
 none | explain good.json bad.json
 deep.json | explain
 deep.json | explain --depth 65535 --color always

@@ -21,22 +21,14 @@ import schedule  # noqa: E402
 
 ROOT = schedule.ROOT
 PROOFS = ("proofs, wrong bodies, proved tests, programs", ["rt", "ci"])
-# What needs the library for C alone, one part after another. It begins once all below jx_c is proved, at a low priority: toward their end
-# the proofs leave processors idle. The library is made first, as most parts behind the proofs would wait for it.
-LIBRARY = "the library for C"
-BESIDE = ((LIBRARY, ["tools/library"]), ("fuzzing of the library", ["fuzz/run", "60"]))
-# What runs over the programs that the proofs built: the lists side by side.
+# What runs over the programs that these built: the lists side by side, the parts of each one after another. Fuzzing keeps few processors busy.
 BEHIND = (
     (("tests of the program", ["tests/run"]),),
-    (("refused memory, failing reads and writes", ["tests/refusals/run"]),),
+    (("fuzzing of the library", ["fuzz/run", "60"]), ("refused memory, failing reads and writes", ["tests/refusals/run"])),
 )
-# Parts that count nothing.
-COUNT_NOTHING = (LIBRARY,)
 COUNTS = re.compile(r"(\d+) passed, (\d+) failed$")
 # Lines of `rt ci` that end a step of a crate.
 STEP = re.compile(r"^rt: ((\w+)(: its tests)? (proved|NOT PROVED|is kept\b.*|ran\b.*)|(\w+): its tests (passed|FAILED))$")
-# Those that tell that a crate is there for others.
-IS_PROVED = re.compile(r"^rt: (\w+) (proved$|is kept\b)")
 # `rt ci` counts a wrong body that it cannot read as no failure: it says nothing of a contract.
 BAD_EDIT = "BAD EDIT"
 # A line that tells a failure, and how many lines from it on tell what was wanted and what came.
@@ -121,13 +113,12 @@ def longest_chain(seconds):
     return max((chain(it) for it in known.values()), key=lambda it: it[0])
 
 
-class Parts(threading.Thread):
+class Part(threading.Thread):
     """Parts that run one after another. Each line of theirs, and the end of each, goes into a queue."""
 
-    def __init__(self, parts, into, niceness=0):
+    def __init__(self, parts, into):
         super().__init__(daemon=True)
         self.parts, self.into = parts, into
-        self.words = ["nice", "-n", str(niceness)] if niceness else []
 
     def run(self):
         for name, command in self.parts:
@@ -135,7 +126,7 @@ class Parts(threading.Thread):
             self.into.put(("begins", name, None))
             # Else a part behind this one would build anew what the first has built.
             environment = dict(os.environ, CI="true", JX_PROGRAM=str(ROOT / "crates/jx/out/jx"), JX_LIBRARIES_ARE_BUILT="yes")
-            started = subprocess.Popen([*self.words, *command], cwd=ROOT, env=environment, stdout=subprocess.PIPE, stderr=subprocess.STDOUT, text=True, errors="replace")
+            started = subprocess.Popen(command, cwd=ROOT, env=environment, stdout=subprocess.PIPE, stderr=subprocess.STDOUT, text=True, errors="replace")
             for line in started.stdout:
                 self.into.put(("line", name, line.rstrip("\n")))
             _, status, usage = os.wait4(started.pid, 0)
@@ -147,74 +138,49 @@ class Parts(threading.Thread):
 class Gate:
     def __init__(self):
         self.began = time.monotonic()
-        self.passed = self.failed = 0
+        self.passed = self.failed = self.bad = 0
         self.elapsed = []
         self.failures = []
         self.is_failing = False
         self.before = collections.deque(maxlen=LINES_IN_FRONT)
-        self.said, self.running = queue.SimpleQueue(), 0
-        self.lines, self.bad = collections.defaultdict(list), collections.Counter()
-        known = schedule.read_crates()
-        # The crates that the library waits for.
-        self.awaited = {it.name for it in known["jx_c"].all_below()}
-        self.has_begun_beside = False
 
     def say(self, text):
         print("gate: %s %s" % (clock(time.monotonic() - self.began), text), flush=True)
 
-    def begin(self, parts, niceness=0):
-        Parts(parts, self.said, niceness).start()
-        self.running += 1
-
-    def begin_beside(self):
-        if not self.has_begun_beside:
-            self.has_begun_beside = True
-            self.begin(BESIDE, schedule.NICE)
-
-    def run(self):
-        """Runs all parts, prints their lines, and counts what the last line of each tells."""
-        self.begin([PROOFS])
-        while self.running:
-            what, name, told = self.said.get()
+    def parts(self, *lists):
+        """Runs lists of parts side by side, prints their lines, and counts what the last line of each tells."""
+        said = queue.SimpleQueue()
+        for each in lists:
+            Part(each, said).start()
+        is_alone, running, lines = len(lists) == 1, len(lists), collections.defaultdict(list)
+        while running:
+            what, name, told = said.get()
             if what == "begins":
                 self.say("begins: " + name)
             elif what == "line":
-                self.take(name, told)
+                lines[name].append(told)
+                if is_alone:
+                    self.line(told)
             elif what == "ended":
-                self.end(name, *told)
+                for line in [] if is_alone else lines[name]:
+                    self.line(line)
+                self.end(name, (lines[name] or [""])[-1], *told)
             else:
-                self.running -= 1
-
-    def take(self, name, line):
-        """Keeps a line until its part has ended, but for those of the proofs, which are printed as they come."""
-        self.lines[name].append(line)
-        self.bad[name] += ": " + BAD_EDIT in line
-        if name == PROOFS[0]:
-            self.line(line)
-            found = IS_PROVED.match(line)
-            self.awaited.discard(found and found[1])
-            if not self.awaited:
-                self.begin_beside()
+                running -= 1
 
     def line(self, line):
         print(line, flush=True)
+        self.bad += ": " + BAD_EDIT in line
         self.note(line)
         if STEP.match(line):
             self.say(line.removeprefix("rt: "))
 
-    def end(self, name, status, elapsed, spent):
-        if name != PROOFS[0]:
-            for line in self.lines[name]:
-                self.line(line)
-        self.count(name, (self.lines[name] or [""])[-1], status, self.bad[name])
-        self.is_failing = False
+    def end(self, name, last, status, elapsed, spent):
+        self.count(name, last, status, self.bad)
+        self.bad, self.is_failing = 0, False
         self.before.clear()
         self.elapsed.append((name, elapsed, spent))
         self.say("ended: %s, in %s" % (name, clock(elapsed)))
-        if name == PROOFS[0]:
-            self.begin_beside()
-            for each in BEHIND:
-                self.begin(each)
 
     def note(self, line):
         """Keeps the lines of a failure, each failure's by themselves."""
@@ -236,7 +202,7 @@ class Gate:
         found = COUNTS.search(last)
         passed, failed = (int(found[1]), int(found[2])) if found else (0, 0)
         failed += bad
-        if not found and name not in COUNT_NOTHING or status and not failed:
+        if not found or status and not failed:
             failed = max(failed, 1)
             self.failures.append(["%s: FAILED: it ended with status %d and counted no failure" % (name, status), *self.before])
         self.passed += passed
@@ -261,7 +227,8 @@ def main():
     sampler = Sampler()
     sampler.start()
     gate = Gate()
-    gate.run()
+    gate.parts([PROOFS])
+    gate.parts(*BEHIND)
     gate.tables(sampler.by_crate())
     gate.tell_failures()
     print(flush=True)

@@ -240,17 +240,44 @@ def compare_lines(text, version, bad, said, published, encoding):
     assert told == wanted, (text, wanted, told)
 
 
-def replay_lines(seed, count, encoding, options, words, uri, language):
+def short_changes(dice, text, encoding):
+    """A change, and the text behind it, which stays short."""
+    change, text = random_change(dice, text, encoding)
+    return ([change], text) if len(text) <= 200 else ([{"text": "1\n2"}], "1\n2")
+
+
+def long_change(dice, text, encoding):
+    """A change of a long text, often at a line's end, and the text behind it."""
+    start = dice.randint(0, len(text))
+    if dice.random() < 0.7:
+        start = max(0, text.find("\n", start) + dice.randrange(2))
+    end = min(len(text), start + dice.choice([0, 0, 0, 1, 1, 2, 300, 20000]))
+    new = dice.choice(["", "", "x", "\n", "{}\n", "\n\n", '"', " ", "[1]", "[1]\n" * 9000])
+    change = {"range": {"start": place(text, start, encoding), "end": place(text, end, encoding)}, "text": new}
+    return change, text[:start] + new + text[end:]
+
+
+def long_changes(dice, text, encoding):
+    """Up to three such changes, each of what the one before it left, and the text behind them."""
+    changes = []
+    for _ in range(dice.choice([1, 1, 1, 2, 3])):
+        change, text = long_change(dice, text, encoding)
+        changes.append(change)
+    return changes, text
+
+
+SHORT_LINES = '{"a": 1}\r\n[1, "é😀"]\n\n{"b": tru}\n'
+LONG_LINES = "".join('{"id": %d, "é": "%s"}\n' % (number, "x" * (number * 37 % 300)) for number in range(600)) + "[2"
+
+
+def replay_lines(seed, count, encoding, options, words, uri, language, text=SHORT_LINES, change=short_changes):
     """Random changes of JSON Lines; each message is compared with what jx lines tells of the client's own copy."""
     dice = random.Random(seed)
-    text = '{"a": 1}\r\n[1, "é😀"]\n\n{"b": tru}\n'
     stream = [greeting(options, ["utf-8", "utf-16"] if encoding == "utf-8" else None), opened(text, 0, uri, language)]
     texts = [text]
     for version in range(1, count + 1):
-        change, text = random_change(dice, text, encoding)
-        if len(text) > 200:
-            change, text = {"text": "1\n2"}, "1\n2"
-        stream.append(changed([change], version, uri))
+        changes, text = change(dice, text, encoding)
+        stream.append(changed(changes, version, uri))
         texts.append(text)
     out, err, status = served(b"".join(stream) + farewell())
     assert (err, status) == (b"", 0), (err, status)
@@ -270,6 +297,13 @@ def replays_of_lines(count):
     print(replay_lines(2, each, "utf-8", None, [], URI, "ndjson"))
     print(replay_lines(3, each, "utf-16", {"depth": 2}, ["--depth", "2"], URI, "jsonlines"))
     print(replay_lines(4, each, "utf-16", {"ignoreBom": True}, ["--ignore-bom"], LINES_URI, "json"))
+
+
+def replays_of_long_lines(count):
+    each = int(count) // 3
+    print(replay_lines(5, each, "utf-16", None, [], LINES_URI, "jsonl", LONG_LINES, long_changes))
+    print(replay_lines(6, each, "utf-8", {"ignoreBom": True}, ["--ignore-bom"], LINES_URI, "jsonl", LONG_LINES, long_changes))
+    print(replay_lines(7, each, "utf-16", {"ignoreBom": True}, ["--ignore-bom"], LINES_URI, "jsonl", "\ufeff" + LONG_LINES, long_changes))
 
 
 def content_of(language, name):

@@ -5,3 +5,5 @@ pub mod Outlines
 pub mod ValuesAt
 pub mod Grown
 pub mod Marked
+pub mod LineTables
+pub mod BadLinesRead

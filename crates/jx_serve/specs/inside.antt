@@ -1,2 +1,3 @@
 pub mod BadLines
+pub mod LineTables
 pub mod Names

@@ -13,6 +13,7 @@ ghost use Rattle.jx_edit.specs.Positions.{offset_at};
 
 use crate::hover::Hover;
 use crate::line_mark::{LineMarks, line_marks_of};
+use crate::line_table::LineTable;
 use crate::mark::{Mark, mark_of};
 use crate::selections::{Selection, selections_of};
 use crate::symbols::{Outline, symbols_of};
@@ -32,18 +33,21 @@ pub struct Held {
     alloc: Global,
     settings: Settings,
     document: Document,
+    // of JSON Lines the lines that were read; of one text none are
+    lines: LineTable,
     lost: bool,
 }
 
 impl Model for Held {
     ghost use Rattle.jx_serve.specs.Changes.{HeldValue};
+    ghost use Rattle.jx_serve.specs.inside.LineTables.{IsTable};
     ghost use Rattle.jx_serve.specs.inside.Names.{IsHeld};
 
     ghost Value = { HeldValue };
 
     ghost view = { λ h. record { settings = h.settings; bytes = h.document.bytes; lost = h.lost } };
 
-    ghost invariant = { λ h. IsHeld h.settings h.document.settings };
+    ghost invariant = { λ h. IsHeld h.settings h.document.settings × IsTable h.settings.depth h.document.bytes h.lines };
 }
 
 /// Where a value at an offset is shown from: from its name on, where the offset stands before it.
@@ -93,6 +97,7 @@ impl Held {
             alloc,
             settings,
             document,
+            lines: LineTable::new(alloc),
             lost: false,
         })
     }
@@ -159,6 +164,7 @@ impl Held {
         match document_of(self.alloc, text, &self.settings, encoding) {
             Ok(document) => {
                 self.document = document;
+                self.lines = LineTable::new(self.alloc);
                 self.lost = false;
                 Ok(())
             }
@@ -175,6 +181,11 @@ impl Held {
         ensures ok { OnOk result (self.new ≡ replaced start end text.now self.old) }
         ensures err { OnErr result (self.new ≡ lose self.old) }
     {
+        if end < start {
+            self.lost = true;
+            return Ok(());
+        }
+        self.lines.open(self.document.len(), start, end);
         match self.document.edit(start, end, text) {
             Ok(()) => Ok(()),
             Err(DocumentFault::Memory) => {
@@ -387,15 +398,24 @@ impl Held {
     }
 
     /// The lines that are no texts, as JSON Lines has them: how the first 1,000 are shown, and how many more there are; none where
-    /// the bytes are lost. Names may be repeated, whatever the settings say. All bytes are read.
-    pub fn line_marks(&self, encoding: Encoding) -> Result<Option<LineMarks>, AllocError>
-        ensures lost { IfOk result (λ marks. is_some marks ≡ not self.now.lost) }
-        ensures marks { IfOk result (λ marks. IfSome marks (λ marks. AreLineMarks encoding self.now.settings self.now.bytes marks)) }
+    /// the bytes are lost. Names may be repeated, whatever the settings say. Lines that no change has touched are not read again.
+    pub fn line_marks(&mut self, encoding: Encoding) -> Result<Option<LineMarks>, AllocError>
+        ensures same { self.new ≡ self.old }
+        ensures lost { IfOk result (λ marks. is_some marks ≡ not self.old.lost) }
+        ensures marks { IfOk result (λ marks. IfSome marks (λ marks. AreLineMarks encoding self.old.settings self.old.bytes marks)) }
     {
         if self.lost {
             return Ok(None);
         }
-        let marks = line_marks_of(self.alloc, &self.document, &self.settings, encoding)?;
+        self.lines
+            .fill(self.alloc, &self.document, self.settings.depth)?;
+        let marks = line_marks_of(
+            self.alloc,
+            &self.document,
+            &self.lines,
+            &self.settings,
+            encoding,
+        )?;
         Ok(Some(marks))
     }
 }

@@ -1,11 +1,14 @@
 //! A language server as a state machine: a message goes in, and a reply comes out. It reads nothing and writes nothing.
 #![tactic(auto)]
 
+mod bad_lines;
 mod fold_words;
 mod held;
 mod hover;
+mod line_block;
 mod line_mark;
 mod line_sentence;
+mod line_table;
 mod line_words;
 mod mark;
 mod nested_words;

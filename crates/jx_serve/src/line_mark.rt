@@ -1,16 +1,16 @@
 // Where the lines of a document that are no texts are shown.
-ghost use Rattle.std.specs.Prelude.{◌≡◌, ◌≤◌, ◌<◌, ◌+◌, ◌++◌, ◌&&◌, [], false, take, IfOk};
-ghost use Rattle.jx_ndjson.specs.Reading.{listed};
-ghost use Rattle.jx_ndjson.specs.Tally.{HasTaken};
+ghost use Rattle.std.specs.Prelude.{◌≡◌, ◌≤◌, ◌<◌, ◌+◌, ◌&&◌, false, take, IfOk};
 ghost use Rattle.jx_serve.specs.LineMarks.{fault_in, is_blank, marked, most_marks, AreLineMarks, AreMarksOf, IsAround, IsMarkOf, IsShownBy, IsWhole};
-ghost use Rattle.jx_serve.specs.inside.BadLines.{AreBadLines};
+ghost use Rattle.jx_serve.specs.inside.LineTables.{IsTable};
 
+use crate::bad_lines::bad_lines;
 use crate::line_sentence::sentence_on_line;
+use crate::line_table::LineTable;
 use crate::mark::{character_end, character_start};
 use crate::selections::Extent;
 use jx_edit::{Document, Encoding, Position};
 use jx_lex::Span;
-use jx_ndjson::{JudgedLine, LineTally, LineVerdict};
+use jx_ndjson::{JudgedLine, LineVerdict};
 use jx_run::{Refusal, Settings};
 use std::alloc::{AllocError, Global};
 
@@ -35,51 +35,6 @@ pub struct LineMarks {
 
 /// How many lines are marked at most.
 const MOST: usize = 1_000;
-
-/// The tally of all lines of a document.
-fn tally_of(
-    alloc: Global,
-    document: &Document,
-    settings: &Settings,
-) -> Result<LineTally, AllocError>
-    ensures { IfOk result (HasTaken settings.now document.now.bytes []) }
-{
-    // No sum of offsets wraps: so many bytes there are.
-    let _len = document.len();
-    let mut tally = LineTally::new(alloc, settings);
-    for piece in document.chunks() {
-        tally.feed(piece)?;
-    }
-    Ok(tally)
-}
-
-/// The lines that wait, and the last one behind them, if it is told.
-fn with_last(
-    alloc: Global,
-    waiting: &[JudgedLine],
-    last: Option<JudgedLine>,
-) -> Result<Vec<JudgedLine>, AllocError>
-    ensures { IfOk result (λ bad. bad.items ≡ waiting.now ++ listed last) }
-{
-    let mut bad = Vec::from_slice(alloc, waiting)?;
-    if let Some(last) = last {
-        bad.push(last)?;
-    }
-    Ok(bad)
-}
-
-/// The lines of a document that are no texts, in order. All bytes are read.
-fn bad_lines(
-    alloc: Global,
-    document: &Document,
-    settings: &Settings,
-) -> Result<Vec<JudgedLine>, AllocError>
-    ensures { IfOk result (λ bad. AreBadLines settings.now document.now.bytes bad.items) }
-{
-    let tally = tally_of(alloc, document, settings)?;
-    let bad = with_last(alloc, tally.waiting(), tally.told_at_end().bad)?;
-    Ok(bad)
-}
 
 /// The offset at which a refusal of a line is shown.
 fn fault_in(span: Span, refusal: Refusal) -> usize
@@ -215,16 +170,18 @@ fn first_of(lines: &[JudgedLine]) -> &[JudgedLine]
 }
 
 /// The lines of a document that are no texts by settings: how the first 1,000 are shown, and how many more there are. Names may be
-/// repeated, whatever the settings say. All bytes are read.
+/// repeated, whatever the settings say. Lines that were read before are not read again.
 pub(crate) fn line_marks_of(
     alloc: Global,
     document: &Document,
+    table: &LineTable,
     settings: &Settings,
     encoding: Encoding,
 ) -> Result<LineMarks, AllocError>
+    requires { IsTable settings.now.depth document.now.bytes table.now }
     ensures { IfOk result (AreLineMarks encoding settings.now document.now.bytes) }
 {
-    let bad = bad_lines(alloc, document, settings)?;
+    let bad = bad_lines(alloc, document, table, settings)?;
     let marked = marked(alloc, &bad)?;
     let marks = marks_of(alloc, document, settings, encoding, first_of(&marked))?;
     let more = bad.len().saturating_sub(marks.len());

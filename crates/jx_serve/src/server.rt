@@ -79,12 +79,18 @@ impl Open {
     }
 
     /// The lines of the document that are no texts.
-    fn published_lines(&self, alloc: Global, encoding: Encoding, version: Option<Vec<u8>>) -> Reply
-        requires lines { self.now.content ≡ Content.Lines }
+    fn published_lines(
+        &mut self,
+        alloc: Global,
+        encoding: Encoding,
+        version: Option<Vec<u8>>,
+    ) -> Reply
+        requires lines { self.old.content ≡ Content.Lines }
+        ensures same { self.new ≡ self.old }
         ensures answers { IsAnswer None result }
-        ensures tells { TellsOf encoding self.now result }
+        ensures tells { TellsOf encoding self.new result }
         ensures version { HasVersion version result }
-        ensures told { IsToldOf encoding version self.now result }
+        ensures told { IsToldOf encoding version self.old result }
     {
         let Ok(uri) = Vec::from_slice(alloc, &self.uri.spelt) else {
             return logged(Trouble::Memory);

@@ -1,4 +1,4 @@
-use Rattle.std.proofs.Common.{ap, ◌∙◌, List, ℕ, take}
+use Rattle.std.proofs.Common.{ap, ◌∙◌, ℕ, take}
 use Rattle.std.proofs.lemmas.List.{take_min}
 use Rattle.jx_serve.proofs.line_mark.first_of.Goals as goal
 

@@ -9,7 +9,7 @@ pub returns-in-None : goal.returns-in-None
 returns-in-None c =
     let settings = c.args.self.now.settings in
     let read : Settings = c.settings-settings.result in
-    let any : read ≡ any_names settings = c.settings-settings.ensures ∙ c.self.invariant ∙ ap (λ (v : HeldValue). any_names v.settings) c.self.view_is in
+    let any : read ≡ any_names settings = c.settings-settings.ensures ∙ c.self.invariant.0 ∙ ap (λ (v : HeldValue). any_names v.settings) c.self.view_is in
     let done = c.args.completed.now in
     no_hover settings read c.args.self.now.bytes done.text.items done.kept c.args.offset c.in_ok-value_at.field-0 any c.requires.completed c.in-None.is
     (subst (λ (l : List ℕ). IsFoundAt read l c.args.offset c.in_ok-value_at.field-0) c.deref.ensures.value c.in_ok-value_at.ensures)
@@ -18,7 +18,7 @@ pub returns-then-kept-value : goal.returns-then-kept-value
 returns-then-kept-value c =
     let settings = c.args.self.now.settings in
     let read : Settings = c.settings-settings.result in
-    let any : read ≡ any_names settings = c.settings-settings.ensures ∙ c.self.invariant ∙ ap (λ (v : HeldValue). any_names v.settings) c.self.view_is in
+    let any : read ≡ any_names settings = c.settings-settings.ensures ∙ c.self.invariant.0 ∙ ap (λ (v : HeldValue). any_names v.settings) c.self.view_is in
     let done = c.args.completed.now in
     due settings read c.args.self.now.bytes done.text.items done.kept c.args.offset c.in_ok-value_at.field-0 c.in-Some.value any c.requires.completed c.in-Some.is
     (subst (λ (l : List ℕ). IsFoundAt read l c.args.offset c.in_ok-value_at.field-0) c.deref.ensures.value c.in_ok-value_at.ensures) c.if-kept-value.true

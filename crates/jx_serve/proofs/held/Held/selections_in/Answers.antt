@@ -12,7 +12,7 @@ unreachable-requires c =
     let settings = c.args.self.now.settings in
     let text : List ℕ = c.args.completed.now.text.items in
     let read : Settings = c.settings-settings.result in
-    let any : read ≡ any_names settings = c.settings-settings.ensures ∙ c.self.invariant ∙ ap (λ (v : HeldValue). any_names v.settings) c.self.view_is in
+    let any : read ≡ any_names settings = c.settings-settings.ensures ∙ c.self.invariant.0 ∙ ap (λ (v : HeldValue). any_names v.settings) c.self.view_is in
     let refused : IsVerdictBy read c.deref.result.now (Refused c.in-Err.field-0) = search rules in
     not_refused settings text c.requires.completed.tree c.in-Err.field-0 c.requires.completed.is_text
     (subst (λ (s : Settings). IsVerdictBy s text (Refused c.in-Err.field-0)) any (subst (λ (l : List ℕ). IsVerdictBy read l (Refused c.in-Err.field-0)) c.deref.ensures.value refused))
