@@ -24,7 +24,11 @@ _jx() {
         mapfile -t COMPREPLY < <(compgen -W 'plain gnu json' -- "$word")
         return
         ;;
-    --chunk | --depth | --from | --parts | --piece | --to | --workers) return ;;
+    --workers)
+        mapfile -t COMPREPLY < <(compgen -W 'auto' -- "$word")
+        return
+        ;;
+    --chunk | --depth | --from | --parts | --piece | --to) return ;;
     esac
     case $command in
     check | explain | index | each | seq | lines | save)

@@ -109,10 +109,12 @@ class Session:
     def bad_lines(self, text):
         """Of JSON Lines the lines that are no texts: where each stands, its verdict in words, and where it has a fault of one byte, where."""
         settings = plain.Settings(self.settings.depth, 0)
+        of_first = plain.Settings(self.settings.depth, self.settings.flags & plain.IGNORE_MARK)
         at = 3 if self.settings.flags & plain.IGNORE_MARK and text.startswith(b"\xef\xbb\xbf") else 0
         lines = text[at:].split(b"\n")
         for number, line in enumerate(lines):
-            verdict, rows = self.readers.read(line, settings)
+            # The first line may be a part of a mark that is ignored.
+            verdict, rows = self.readers.read(line, of_first if at == 0 else settings)
             is_last = number == len(lines) - 1
             if not line.strip(b" \t\r\n"):
                 if line or not is_last:

@@ -122,8 +122,8 @@ enum { JX_STACK_MOST = 65536 };
 /* Flags of settings. */
 enum {
     /* Ignore a byte order mark, the bytes EF BB BF, in front of a text and before all white space (RFC 8259, section 8.1).
-     * Offsets count its bytes. Input that ends within it is truncated, but for a first line (jx_lines), which is stopped at 0.
-     * Without this flag it is stopped at 0. */
+     * Offsets count its bytes. Input that ends within it is truncated, as is a first line (jx_lines). Without this flag it is
+     * stopped at 0. */
     JX_IGNORE_MARK = 1,
     /* Refuse duplicate names in an object, at the offset of the first duplicate. Names are equal if their values are, as
      * lists of UTF-16 code units. Without this flag any names are accepted (RFC 8259, section 4). */

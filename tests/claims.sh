@@ -4,26 +4,33 @@
 # and so does one that has gone.
 . "$(dirname "$0")/lib.sh"
 
-# PAGE | SENTENCE | WHAT LEAST MOST | INPUT | WORDS. A `-` has no bound. An input is a text, lines or elements of so many bytes; behind
-# `cat` it comes through a pipe.
+# PAGE | SENTENCE | WHAT LEAST MOST | INPUT | WORDS. A `-` has no bound; `auto` is one thread for each processor that may be used here. An
+# input is a text, lines or elements of so many bytes; behind `cat` it comes through a pipe.
 claims() {
     cat <<'LINES'
-README.md | Share the work among N workers, 1 to 64. Default: 4, of `each` 1. | threads 4 - | text.20000000 | check
-README.md | Share the work among N workers, 1 to 64. Default: 4, of `each` 1. | threads 0 0 | text.20000000 | each
+README.md | Use N workers, auto or 1 to 64. Default: auto, of `each` 1. | threads auto auto | text.20000000 | check
+README.md | Use N workers, auto or 1 to 64. Default: auto, of `each` 1. | threads auto - | text.20000000 | explain
+README.md | Use N workers, auto or 1 to 64. Default: auto, of `each` 1. | threads auto - | text.1200000 | at --pointers many
+README.md | Use N workers, auto or 1 to 64. Default: auto, of `each` 1. | threads auto - | text.1200000 | get --pointers many
+README.md | Use N workers, auto or 1 to 64. Default: auto, of `each` 1. | threads auto - | seq.20000000 | seq -q
+README.md | Use N workers, auto or 1 to 64. Default: auto, of `each` 1. | threads auto auto | lines.1200000 | lines -q
+README.md | Use N workers, auto or 1 to 64. Default: auto, of `each` 1. | threads 0 0 | text.20000000 | each
+jx.1 | auto: one for each processor that jx may use, at most 16. | threads auto auto | text.20000000 | check --workers auto
+jx.1 | auto: one for each processor that jx may use, at most 16. | threads auto - | text.20000000 | each --workers auto
 README.md | an index to keep beside a text, 0.075 % of its size | output 14800 15200 | text.20000000 | save
-jx.1 | Of one FILE each worker reads pieces of 256 KiB for itself, and one alone the first MiB. | threads 0 0 | text.1000000 | check
-jx.1 | Of one FILE each worker reads pieces of 256 KiB for itself, and one alone the first MiB. | threads 1 - | text.20000000 | check
-jx.1 | So their workers share an input of some 5.25 MiB or more. | threads 0 0 | cat text.5505023 | check
-jx.1 | So their workers share an input of some 5.25 MiB or more. | threads 4 4 | cat text.5505024 | check
-jx.1 | So workers share such an input of some 5.25 MiB or more. | threads 0 0 | cat seq.5500000 | seq -q
-jx.1 | So workers share such an input of some 5.25 MiB or more. | threads 4 4 | cat seq.5510000 | seq -q
-jx.1 | Of one FILE each worker reads pieces of 256 KiB for itself, from a MiB on. | threads 0 0 | seq.1000000 | seq -q
-jx.1 | Of one FILE each worker reads pieces of 256 KiB for itself, from a MiB on. | threads 4 - | seq.5510000 | seq -q
-jx.1 | With --piece above 131072 they share a MiB or more. | threads 0 0 | cat text.1048575 | check --piece 131073
-jx.1 | With --piece above 131072 they share a MiB or more. | threads 4 4 | cat text.1048576 | check --piece 131073
-jx.1 | They share a text from a MiB on. One worker reads a text with --unique-names. | threads 0 0 | text.1048575 | explain
-jx.1 | They share a text from a MiB on. One worker reads a text with --unique-names. | threads 4 4 | text.1048576 | explain
-jx.1 | They share a text from a MiB on. One worker reads a text with --unique-names. | threads 0 0 | text.1048576 | explain --unique-names
+jx.1 | Of one FILE each worker reads chunks of 256 KiB for itself, and one alone the first MiB. | threads 0 0 | text.1000000 | check --workers 4
+jx.1 | Of one FILE each worker reads chunks of 256 KiB for itself, and one alone the first MiB. | threads 1 - | text.20000000 | check --workers 4
+jx.1 | So their workers share an input of some 5.25 MiB or more. | threads 0 0 | cat text.5505023 | check --workers 4
+jx.1 | So their workers share an input of some 5.25 MiB or more. | threads 4 4 | cat text.5505024 | check --workers 4
+jx.1 | So workers share such an input of some 5.25 MiB or more. | threads 0 0 | cat seq.5500000 | seq --workers 4 -q
+jx.1 | So workers share such an input of some 5.25 MiB or more. | threads 4 4 | cat seq.5510000 | seq --workers 4 -q
+jx.1 | Of one FILE each worker reads chunks of 256 KiB for itself, from a MiB on. | threads 0 0 | seq.1000000 | seq --workers 4 -q
+jx.1 | Of one FILE each worker reads chunks of 256 KiB for itself, from a MiB on. | threads 4 - | seq.5510000 | seq --workers 4 -q
+jx.1 | With --piece above 131072 they share a MiB or more. | threads 0 0 | cat text.1048575 | check --workers 4 --piece 131073
+jx.1 | With --piece above 131072 they share a MiB or more. | threads 4 4 | cat text.1048576 | check --workers 4 --piece 131073
+jx.1 | They share a text from a MiB on. One worker reads a text with --unique-names. | threads 0 0 | text.1048575 | explain --workers 4
+jx.1 | They share a text from a MiB on. One worker reads a text with --unique-names. | threads 4 4 | text.1048576 | explain --workers 4
+jx.1 | They share a text from a MiB on. One worker reads a text with --unique-names. | threads 0 0 | text.1048576 | explain --workers 4 --unique-names
 jx.1 | One worker reads with --live. | threads 0 0 | seq.20000000 | seq -q --live
 jx.1 | With one worker no thread is started, except one to look up many pointers. | threads 0 0 | text.20000000 | check --workers 1
 jx.1 | With one worker no thread is started, except one to look up many pointers. | threads 0 0 | text.20000000 | explain --workers 1
@@ -31,9 +38,9 @@ jx.1 | With one worker no thread is started, except one to look up many pointers
 jx.1 | With one worker no thread is started, except one to look up many pointers. | threads 0 0 | lines.20000000 | lines -q --workers 1
 jx.1 | With one worker no thread is started, except one to look up many pointers. | threads 0 0 | seq.20000000 | seq -q --workers 1
 jx.1 | With one worker no thread is started, except one to look up many pointers. | threads 1 1 | text.1200000 | at --workers 1 --pointers many
-jx.1 | They are many where there are 10000 or more, and one for each 128 bytes of the text. | threads 4 4 | text.1200000 | at --pointers many
-jx.1 | They are many where there are 10000 or more, and one for each 128 bytes of the text. | threads 0 0 | text.1200000 | at --pointers few
-jx.1 | They are many where there are 10000 or more, and one for each 128 bytes of the text. | threads 0 0 | text.1300000 | at --pointers many
+jx.1 | They are many where there are 10000 or more, and one for each 128 bytes of the text. | threads 4 4 | text.1200000 | at --workers 4 --pointers many
+jx.1 | They are many where there are 10000 or more, and one for each 128 bytes of the text. | threads 0 0 | text.1200000 | at --workers 4 --pointers few
+jx.1 | They are many where there are 10000 or more, and one for each 128 bytes of the text. | threads 0 0 | text.1300000 | at --workers 4 --pointers many
 jx.1 | With fewer than 10000 pointers one thread reads, and at most 256 KiB of the text are kept. | threads 0 0 | text.20000000 | at /1
 jx.1 | With fewer than 10000 pointers one thread reads, and at most 256 KiB of the text are kept. | memory - 8000 | text.20000000 | at /1
 jx.1 | With --unique-names one thread reads, at most 256 KiB at a time. | threads 0 0 | text.20000000 | check --unique-names
@@ -42,29 +49,29 @@ jx.1 | one of them reads the text and makes its index. | threads 0 0 | text.2000
 jx.1 | One worker reads the text, looks up fewer pointers, looks up by --index, and answers with --lines. | threads 0 0 | text.20000000 | get /1 /2
 jx.1 | One worker reads the text, looks up fewer pointers, looks up by --index, and answers with --lines. | threads 0 0 | lines.20000000 | get --lines /n
 jx.1 | They share what one read gives, from a MiB on. | threads 4 - | text.20000000 | each --workers 4
-jx.1 | Workers share what one read gives, if it is a MiB or more. | threads 0 0 | lines.1048575 | lines -q
-jx.1 | Workers share what one read gives, if it is a MiB or more. | threads 4 4 | lines.1200000 | lines -q
-jx.1 | A read of a pipe mostly gives less, and then one worker reads. | threads 0 0 | cat lines.20000000 | lines -q
-jx.1 | One worker reads, and no element is held. | threads 0 0 | seq.20000000 | seq --live
-jx.1 | One worker reads, and no element is held. | memory - 8000 | seq.20000000 | seq --live
+jx.1 | Workers share what one read gives, if it is a MiB or more. | threads 0 0 | lines.1048575 | lines --workers 4 -q
+jx.1 | Workers share what one read gives, if it is a MiB or more. | threads 4 4 | lines.1200000 | lines --workers 4 -q
+jx.1 | A read of a pipe mostly gives less, and then one worker reads. | threads 0 0 | cat lines.20000000 | lines --workers 4 -q
+jx.1 | One worker reads, and no element is kept in memory. | threads 0 0 | seq.20000000 | seq --live
+jx.1 | One worker reads, and no element is kept in memory. | memory - 8000 | seq.20000000 | seq --live
 jx.1 | With one pointer, only its value is kept in memory. | memory - 8000 | text.20000000 | get /1
 jx.1 | With several pointers, or with --unique-names, the whole input is. | memory 19500 - | text.20000000 | get /1 /2
 jx.1 | With several pointers, or with --unique-names, the whole input is. | memory 19500 - | text.20000000 | get --unique-names /1
 jx.1 | With --lines one line is kept. | memory - 8000 | lines.20000000 | get --lines /n
 jx.1 | With 10000 pointers or more the whole input is | memory 19500 - | text.20000000 | at --pointers many
-jx.1 | The text is read to its end, and not held but for one element. | memory - 8000 | text.20000000 | each
+jx.1 | The text is read to its end, and one element is kept in memory. | memory - 8000 | text.20000000 | each
 jx.1 | One thread reads. | threads 0 0 | text.20000000 | save
-jx.1 | The text is read once, and not held; its index is | memory - 8000 | text.20000000 | save
+jx.1 | The text is read once, and not kept; its index is | memory - 8000 | text.20000000 | save
 jx.1 | So is what is read from a pipe, and a file that is shorter than 8 MiB. | memory 6800 - | text.7000000 | explain
 jx.1 | So is what is read from a pipe, and a file that is shorter than 8 MiB. | memory 19500 - | cat text.20000000 | explain
 jx.1 | So is what is read from a pipe, and a file that is shorter than 8 MiB. | memory - 8000 | text.20000000 | explain --workers 1
-docs/RECIPES.md | Of a pipe `check` keeps two batches of up to 8 MiB, with one worker one of 256 KiB, however long the dump. | memory 16000 28000 | cat text.60000000 | check
+docs/RECIPES.md | Of a pipe `check` keeps two batches of up to 8 MiB, with one worker one of 256 KiB, however long the dump. | memory 16000 28000 | cat text.60000000 | check --workers 4
 docs/RECIPES.md | Of a pipe `check` keeps two batches of up to 8 MiB, with one worker one of 256 KiB, however long the dump. | memory - 8000 | cat text.60000000 | check --workers 1
-docs/RECIPES.md | Of a file each worker keeps 256 KiB. | memory - 8000 | text.60000000 | check
+docs/RECIPES.md | Of a file each worker keeps 256 KiB. | memory - 8000 | text.60000000 | check --workers 4
 docs/RECIPES.md | Of a file each worker keeps 256 KiB. | memory - 26000 | text.60000000 | check --workers 64
-docs/DECISIONS.md | A file of less than a MiB is read in order | threads 0 0 | text.1048575 | check
-docs/DECISIONS.md | A file of less than a MiB is read in order | threads 4 4 | text.1200000 | check
-docs/DECISIONS.md | one of up to four chunks starts no thread. | threads 0 0 | text.20000000 | check --piece 6000000
+docs/DECISIONS.md | A file of less than a MiB is read in order | threads 0 0 | text.1048575 | check --workers 4
+docs/DECISIONS.md | A file of less than a MiB is read in order | threads 4 4 | text.1200000 | check --workers 4
+docs/DECISIONS.md | one of up to four chunks starts no thread. | threads 0 0 | text.20000000 | check --workers 4 --piece 6000000
 docs/DECISIONS.md | With `--progress` or unique names a file is read in order | threads 0 0 | text.20000000 | check --unique-names
 docs/RECIPES.md | With one pointer `get` keeps only its value in memory, with several the whole text. | memory - 8000 | cat text.20000000 | get /1
 docs/DECISIONS.md | One worker that looks up pointers in an index has a thread of its own | threads 1 1 | text.1200000 | get --workers 1 --pointers many
@@ -141,6 +148,9 @@ counts() {
     echo "$(cat counts) output=$(wc -c <out)"
 }
 
+# threads_on COUNT: how many threads as many workers as processors are, where so many may be used. One worker reads without a thread.
+threads_on() { echo $(($1 > 16 ? 16 : $1 > 1 ? $1 : 0)); }
+
 # within NUMBER LEAST MOST: whether it lies there. A `-` is no bound.
 within() {
     { [ "$2" = - ] || [ "$1" -ge "$2" ]; } && { [ "$3" = - ] || [ "$1" -le "$3" ]; }
@@ -154,10 +164,23 @@ each_sentence_is_so() {
         if [ ! -e "page.${name##*/}" ]; then page "$name" >"page.${name##*/}"; fi
         has "$name" "$sentence" "$(cat "page.${name##*/}")"
         said=$(counts "$input" $words)
+        least=${least/auto/$(threads_on "${#processors[@]}")} most=${most/auto/$(threads_on "${#processors[@]}")}
         number=$(sed -n "s/.*$what=\([0-9]*\).*/\1/p" <<<"$said")
         same "$name: $sentence: jx $words on $input: $what from $least to $most" yes \
             "$(if [ -n "$number" ] && within "$number" "$least" "$most"; then echo yes; else echo "$said"; fi)"
     done < <(claims)
+}
+
+# The processors that jx may use are those of its affinity.
+auto_follows_the_affinity() {
+    local count some
+    for count in 1 2 "${#processors[@]}"; do
+        if [ "$count" -le "${#processors[@]}" ]; then
+            some=$(IFS=, && echo "${processors[*]:0:count}")
+            same "$count processors" "threads=$(threads_on "$count")" \
+                "$(JX_COUNTS=counts LD_PRELOAD=$room/counter.so taskset -c "$some" "$program" check --file text.20000000 >out && cut -d ' ' -f 1 counts)"
+        fi
+    done
 }
 
 if ! command -v cc >/dev/null || ! make_counter 2>cc.log; then
@@ -168,4 +191,5 @@ fi
 seq 0 9999 | sed 's|^|/|' >many
 head -n 9999 many >few
 make_inputs
-tests each_sentence_is_so
+mapfile -t processors < <(python3 -c 'import os; print(*sorted(os.sched_getaffinity(0)), sep="\n")')
+tests each_sentence_is_so auto_follows_the_affinity

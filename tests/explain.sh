@@ -71,6 +71,7 @@ the_line_is_shown_with_a_caret() {
     local many
     same 'a whole line' "$(printf '%s\n' '-:2:6: expected a value, found } (byte 9)' '  [1,}' '     ^' 'pointer: /1/1' 'perhaps: a comma too many')" "$(shown '[1,\n  [1,}\n]')"
     same 'a character that takes two columns' "$(printf '%s\n' '-:1:4: expected the end of the text, found x (byte 5)' '"漢"x' '    ^')" "$(shown '"\346\274\242"x')"
+    same 'a carriage return before a line feed is not shown' "$(printf '%s\n' '[1,]' '   ^')" "$(shown '[1,]\r\n' | sed -n 2,3p)"
     same 'bytes that are no characters' "$(printf '%s\n' '-:1:2: expected a character in UTF-8, found \xFF (byte 1)' '"\xFF\x01' ' ^')" "$(shown '"\377\001')"
     many=$(printf '1,%.0s' {1..100})
     same 'a long line is cut' "$(printf '%s\n' '-:1:202: expected a value, found a comma (byte 201)' "..${many:163},${many:0:37}.." "$(printf '%39s^' '')" 'pointer: /100' 'perhaps: a comma too many')" "$(shown "[$many,$many")"

@@ -5,11 +5,11 @@
 # worker takes up to 1.4 times as long. No answer depends on it: a bad place is told and fails nothing.
 . "$(dirname "$0")/lib.sh"
 
-# The loops of one worker that stand once: over blocks where tokens stand close, and over characters beyond ASCII.
-loops='jx_reduce::stack::blocks::blocks::<.*> jx_lex::scanner::ahead::Ahead::after'
+# The loop of one worker that stands once: over characters beyond ASCII.
+loops='jx_lex::scanner::ahead::Ahead::after'
 
-# The loops over whole tokens and over single ones: one for each kind of reading.
-kinds='jx_reduce::stack::whole_tokens::rounds::<.*> jx_lex::scanner::scan::<.*>'
+# The loops over blocks where tokens stand close, over whole tokens and over single ones: one for each kind of reading.
+kinds='jx_reduce::stack::blocks::blocks::<.*> jx_reduce::stack::whole_tokens::rounds::<.*> jx_lex::scanner::scan::<.*>'
 
 # The addresses of a function, hexadecimal, a line each.
 places() { nm "$program" | sed -n "s/^\([0-9a-f]*\) [tT] $1\$/\1/p"; }

@@ -182,12 +182,23 @@ def compact(value):
     return re.sub(rb'("(?:[^"\\]|\\.)*")|[ \t\r\n]+', lambda found: found[1] or b"", value, flags=re.DOTALL)
 
 
-def of_line(number, line, ended, pointers, depth, skips):
+def refuse_part_of_mark(line):
+    """A line that begins with a part of a byte order mark, which is ignored."""
+    count = len(os.path.commonprefix([line, MARK]))
+    if count == len(line):
+        raise Refused("truncated")
+    if count:
+        raise Refused("stopped at %d" % count)
+
+
+def of_line(number, line, ended, pointers, depth, skips, is_bare):
     """The values of a line, and what is told of it."""
     none = [b""] * len(pointers)
     if not line.strip(BLANKS):
         return none, b"" if skips else b"jx: line %d: blank\n" % number
     try:
+        if is_bare:
+            refuse_part_of_mark(line)
         root, is_open = Line(line, depth).whole()
         json.loads(line.decode())
     except Refused as refused:
@@ -206,12 +217,13 @@ def of_line(number, line, ended, pointers, depth, skips):
 
 
 def wanted_of(text, pointers, depth, skips, ignores):
-    parts = text[3 if ignores and text.startswith(MARK) else 0 :].split(b"\n")
+    marked = ignores and text.startswith(MARK)
+    parts = text[3 if marked else 0 :].split(b"\n")
     output = told = b""
     for place, part in enumerate(parts):
         ended = place + 1 < len(parts)
         if ended or part:
-            values, words = of_line(place + 1, part, ended, pointers, depth, skips)
+            values, words = of_line(place + 1, part, ended, pointers, depth, skips, ignores and not marked and place == 0)
             output += b"\t".join(values) + b"\n"
             told += words
     return output, told, int(told != b"")

@@ -163,10 +163,21 @@ class Text:
             low, high = 0x80, 0xBF
 
 
-def verdict(line, at, depth, ended):
+def refuse_part_of_mark(line, at):
+    """A line that begins with a part of a byte order mark, which is ignored."""
+    count = len(os.path.commonprefix([line, MARK]))
+    if count == len(line):
+        raise Refused("truncated")
+    if count:
+        raise Refused("stopped at %d" % (at + count))
+
+
+def verdict(line, at, depth, ended, ignores):
     if not line.strip(BLANKS):
         return "blank"
     try:
+        if ignores and at == 0:
+            refuse_part_of_mark(line, at)
         unclosed = Text(line, at, depth).whole()
     except Refused as refused:
         return str(refused)
@@ -184,7 +195,7 @@ def wanted_of(text, depth, skips, ignores):
     for place, part in enumerate(parts):
         ended = place + 1 < len(parts)
         if ended or part:
-            told = verdict(part, at, depth, ended)
+            told = verdict(part, at, depth, ended, ignores)
             if told == "accepted":
                 good += 1
             elif told != "blank" or not skips:

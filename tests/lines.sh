@@ -38,7 +38,14 @@ a_mark_is_of_the_input_and_of_no_line() {
     same 'it is ignored in front' "$(all 'status 1' 'out: 2 5..9 stopped at 5' 'out: accepted 1, refused 1')" "$(said '\357\273\2771\n\357\273\2772\n' lines --ignore-bom)"
     same 'alone it is no line' "$(all 'status 0' 'out: accepted 0, refused 0')" "$(said '\357\273\277' lines --ignore-bom)"
     same 'a blank line behind it' "$(all 'status 1' 'out: 1 3..3 blank' 'out: accepted 0, refused 1')" "$(said '\357\273\277\n' lines --ignore-bom)"
-    same 'a part of one is a line' "$(all 'status 1' 'out: 1 0..2 stopped at 0' 'out: accepted 0, refused 1')" "$(said '\357\273' lines --ignore-bom)"
+    same 'a part of one is a line' "$(all 'status 1' 'out: 1 0..2 truncated' 'out: accepted 0, refused 1')" "$(said '\357\273' lines --ignore-bom)"
+    same 'its first byte alone' "$(all 'status 1' 'out: 1 0..1 truncated' 'out: accepted 0, refused 1')" "$(said '\357' lines --ignore-bom)"
+    same 'where it is refused' "$(all 'status 1' 'out: 1 0..2 stopped at 0' 'out: accepted 0, refused 1')" "$(said '\357\273' lines)"
+    same 'a part of one that a line feed ends' "$(all 'status 1' 'out: 1 0..2 truncated' 'out: accepted 1, refused 1')" "$(said '\357\273\n1\n' lines --ignore-bom)"
+    same 'a part of one and another byte' "$(all 'status 1' 'out: 1 0..3 stopped at 2' 'out: accepted 1, refused 1')" "$(said '\357\2731\n1\n' lines --ignore-bom)"
+    same 'a part of one in another line' "$(all 'status 1' 'out: 2 2..4 stopped at 2' 'out: accepted 1, refused 1')" "$(said '1\n\357\273\n' lines --ignore-bom)"
+    same 'a part of one behind one' "$(all 'status 1' 'out: 1 3..5 stopped at 3' 'out: accepted 0, refused 1')" "$(said '\357\273\277\357\273' lines --ignore-bom)"
+    same 'a part of one has no values' "$(all 'status 1' 'out: ' 'out: 2' 'err: jx: line 1: truncated')" "$(said '\357\273\n2\n' get --lines --ignore-bom '')"
 }
 
 # What a read gives is shared where it is a MiB or more.

@@ -19,7 +19,7 @@ it_is_there() {
 words_are_read() {
     same 'the version' 'jx-lsp 0.3.0, status 0' "$("$JX_LSP_PROGRAM" --version), status $?"
     has 'help' 'Usage: jx-lsp [--stdio]' "$("$JX_LSP_PROGRAM" --help)"
-    same 'wrong words' 'jx-lsp: wrong words; see jx-lsp --help, status 2' "$("$JX_LSP_PROGRAM" --port 1 2>&1 </dev/null), status $?"
+    same 'wrong arguments' 'jx-lsp: wrong arguments; see jx-lsp --help, status 2' "$("$JX_LSP_PROGRAM" --port 1 2>&1 </dev/null), status $?"
     same 'exit without shutdown' 'status 1' "$(played framed 'Content-Length: 33\r\n\r\n{"jsonrpc":"2.0","method":"exit"}')"
     same 'no input, as an exit without shutdown' 'status 1' "$("$JX_LSP_PROGRAM" </dev/null; echo "status $?")"
 }
@@ -28,7 +28,7 @@ words_are_read() {
 the_page_has_the_words_of_the_help() {
     local page sentence
     page=$(sed -e '/^\.\\"/d; s/^\.\(SH\|SS\|B\|BR\|TH\) *//; /^\.[A-Za-z]/d; s/\\-/-/g' "$root/jx-lsp.1" | flat)
-    for sentence in 'tells an editor on each change where a JSON text (RFC 8259) stops being one, by the Language Server Protocol.' \
+    for sentence in 'shows an editor on each change where a JSON text (RFC 8259) stops being one, by the Language Server Protocol.' \
         'It reads messages on standard input and writes messages on standard output.' 'Speak on standard input and output, as it does anyway' \
         'Print help' 'Print version'; do
         has "the help has: $sentence" "$sentence" "$("$JX_LSP_PROGRAM" --help | flat)"

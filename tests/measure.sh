@@ -8,7 +8,7 @@ each_table_is_printed() {
     local said table
     said=$(measured --on records,ones,backslashes --tables workers,commands,lines,pointers,memory)
     same 'the status' 0 $?
-    for table in '| `check` | records | ones | backslashes | mean | worst |' '| 4 workers over 1 | ' '| `check --unique-names` | ' '| `each` | ' \
+    for table in '| `check` | records | ones | backslashes | mean | worst |' '| 4 workers over 1 | ' '| processor time, 4 over 1 | ' '| `check --unique-names` | ' '| `at`, 1,000 | ' '| `each` | ' \
         '| over `check` | records, 1 | records, 4 |' '| `seq --live` | ' '| `at --index`, ms |' '| records, 1 MB | MB |' '| `index` | '; do
         has "a table with $table" "$table" "$said"
     done

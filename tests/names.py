@@ -20,7 +20,7 @@ PARTS = ["the product, from the lowest layer up", "for callers with threads of t
 APART = PARTS[3:]
 # Names that several crates give to a public type: each is another thing, and no file takes two of them.
 SHARED = {
-    "Entry": ("jx_reduce jx_saved", "what may stand in front of marks; what is kept of a chunk"),
+    "Entry": ("jx_file_index jx_reduce", "what may stand in front of marks; what is kept of a chunk"),
     "Form": ("jx_explain jx_values", "how a verdict is told; how a value is written"),
     "Held": ("jx_book jx_serve", "a run with the text that it is of; a document that a client has open"),
     "Mark": ("jx_lex jx_serve", "the mark of a token; what an editor underlines"),
@@ -116,7 +116,7 @@ def wrong_types():
 
 def wrong_format():
     page = text_of("docs/FORMAT.md")
-    folders = [ROOT / "crates" / crate / "specs" for crate in ("jx_portion", "jx_saved")]
+    folders = [ROOT / "crates" / crate / "specs" for crate in ("jx_portion", "jx_file_index")]
     specs = "".join(path.read_text() for folder in folders for path in sorted(folder.glob("*.antt")))
     rows = [row for row in page.splitlines() if row.startswith("|")]
     words = [word for row in rows for word in re.findall(r"`([a-z_]\w*)`", row)]

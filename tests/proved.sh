@@ -51,7 +51,7 @@ what_is_wrong_is_told() {
     wrong names crates/jx_edit/README.md 's/`Stand`: where/`Stance`: where/' 'jx_edit/README.md names Stance, which is not there'
     wrong names crates/jx_c/README.md 's/`jx_rows`, //' 'jx_c/README.md does not name jx_rows'
     wrong names docs/PROVED.md 's/`Document::verdict` of/`Document::change` of/' 'PROVED.md names Document::change, which is not there'
-    wrong names docs/PROVED.md 's/`tokens_are_read`, and `scan` gives/`tokens_are_told`, and `scan` gives/' \
+    wrong names docs/PROVED.md 's/`grammar_of_tokens`, and `scan` gives/`tokens_are_told`, and `scan` gives/' \
         'PROVED.md names tokens_are_told, which is not there'
     wrong promises crates/jx_edit/src/document.rt 's/^        ensures err { OnErr/        ensures unchanged { OnErr/' \
         'err is no clause of `Document::edit`'

@@ -57,7 +57,13 @@ a_fault_ends_with_status_2() {
     fi
     has 'no number' "$(lines 'status 2' "err: error: invalid value 'x' for '--depth <N>'")" "$(said '' check --depth x)"
     has 'no command' "$(lines 'status 2' "err: error: 'jx' requires a subcommand")" "$(said '')"
-    has 'bytes that are no text in a word' "$(lines 'status 2' 'err: error: invalid UTF-8')" "$(said '' check --file $'\377')"
+    same 'a name that is not UTF-8' "$(lines 'status 2' 'err: jx: a\x00b: cannot open: Invalid argument')" "$(said '' check --file $'a\377b')"
+    printf 'null' >read
+    same 'a name that is not UTF-8 among others' "$(lines 'status 2' 'out: read: accepted' 'out: read: accepted' 'err: jx: a\x00b: cannot open: Invalid argument')" \
+        "$(said '' check read $'a\377b' read)"
+    has 'an option that is not UTF-8' "$(lines 'status 2' 'err: error: invalid UTF-8')" "$(said '' check --depth $'\377')"
+    has 'a pointer that is not UTF-8' "$(lines 'status 2' 'err: error: invalid UTF-8')" "$(said '1' at $'/\377')"
+    has 'a FILE of each that is not UTF-8' "$(lines 'status 2' 'err: error: invalid UTF-8')" "$(said '' each '' $'\377')"
 }
 
 a_byte_order_mark_is_refused_or_ignored() {

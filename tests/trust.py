@@ -45,10 +45,10 @@ COMMANDS = {
     "`lines`": ({"jx_ndjson_report/src/reporting": ["report_lines"]}, without("Index At Seq")),
     "`get --lines`": ({"jx_line_values/src/reporting": ["report_line_values"]}, without("Index At Seq")),
     "`seq --live`": ({"jx_ndjson_report/src/reporting": ["report_sequence"]}, without("Index At Seq")),
-    "`at --index`": ({"jx_walk_report/src/reporting": ["report_places"]}, without("Check Index Seq")),
-    "`get --index`": ({"jx_walk_values/src/reporting": ["report_values_by_index"]}, without("Check Index Seq")),
-    "`split`": ({"jx_walk_report/src/parts_reporting": ["report_parts"]}, without("Check Index Seq")),
-    "`save`": ({"jx_saved_report/src/reporting": ["report_index"]}, without("Index At Seq")),
+    "`at --index`": ({"jx_cmd_index/src/places_reporting": ["report_places"]}, without("Check Index Seq")),
+    "`get --index`": ({"jx_cmd_index/src/values_reporting": ["report_values_by_index"]}, without("Check Index Seq")),
+    "`split`": ({"jx_cmd_index/src/parts_reporting": ["report_parts"]}, without("Check Index Seq")),
+    "`save`": ({"jx_cmd_index/src/index_reporting": ["report_index"]}, without("Index At Seq")),
     "`explain`": (
         {
             "jx_explain/src/reporting": ["report_explained"],

@@ -223,6 +223,20 @@ lines_come_while_the_input_is_read() {
     same 'a line before the input ends' '{"n":1}' "$first"
 }
 
+# Commas, white space, escapes and brackets at each place of 64 bytes, in strings and outside.
+elements_end_at_any_place_of_a_block() {
+    python3 -c '
+items = []
+for n in range(140):
+    word, deep = "x" * (n % 70), n % 67
+    items += [("\"" + word + ", \\\" ,\\\\\"",) * 2, ("{\"" + word + "\" :[" + "[1 ],\n" * deep + "[ ]]}", "{\"" + word + "\":[" + "[1]," * deep + "[]]}")]
+    items += [("\"\"",) * 2, ("\",\"",) * 2, ("1",) * 2] * (n % 71) + [("[" * deep + "]" * deep + " ", "[" * deep + "]" * deep)] * min(deep, 1)
+open("cut", "w").write("[" + ",".join(item for item, _ in items) + "]")
+open("wanted", "w").write("".join(line + "\n" for _, line in items))'
+    "$program" each <cut >got
+    same 'elements that end at any place' same "$(cmp -s wanted got && echo same)"
+}
+
 long_elements_and_many_are_written_whole() {
     python3 -c '
 items = ["\"" + "y " * (n % 50) + "\\\\\"" for n in range(20000)] + ["[" + "1 , " * 300000 + "2 ]"]
@@ -322,5 +336,6 @@ tests values_are_those_that_pointers_lead_to \
     elements_are_one_for_all_workers \
     a_pointer_leads_to_the_container \
     lines_come_while_the_input_is_read \
+    elements_end_at_any_place_of_a_block \
     long_elements_and_many_are_written_whole \
     a_closed_pipe_ends_it_without_a_word

@@ -18,6 +18,11 @@ wrong_bodies_can_be_put_in_their_places() {
     same 'each text of a row stands once in its file' ' 0 failed' "$("$root/tools/plant" --read | sed 's/.* passed,//')"
 }
 
+how_many_were_refused_is_written_down() {
+    same 'docs/EVIDENCE.md has the table of tools/wrong_bodies --table' "$("$root/tools/wrong_bodies" --table)" \
+        "$(sed -n '/^| Crate | Wrong bodies |/,/^$/p' "$root/docs/EVIDENCE.md")"
+}
+
 proved_tests_are_few() {
     local count
     count=$(grep -rh '#\[test\]' --include='*.rt' "$root/crates" | wc -l)
@@ -28,4 +33,5 @@ proved_tests_are_few() {
 
 tests wrong_bodies_are_not_lost \
     wrong_bodies_can_be_put_in_their_places \
+    how_many_were_refused_is_written_down \
     proved_tests_are_few

@@ -1,9 +1,9 @@
 #!/usr/bin/env python3
-"""Runs the parts of the gate, tells how far they are, and counts what passed and what failed.
+"""Runs the parts of the gate, prints how far they are, and counts what passed and what failed.
 
 The parts' own lines go through as they are, those of parts that run side by side once each has ended. A line that begins with
 `gate: ` gives the time since the start. At the end stand two tables, of the parts and of each crate's checks, and the longest chain of
-proofs, which bounds the elapsed time. Behind them each failure of a test is printed again, since it is far up by then. Then comes when
+proofs, which bounds the elapsed time. After them each failure of a test is printed again, since it is far up by then. Then comes when
 the wrong bodies beside the gate last passed. The last line is `N passed, M failed`.
 """
 import collections
@@ -31,12 +31,12 @@ COUNTS = re.compile(r"(\d+) passed, (\d+) failed$")
 STEP = re.compile(r"^rt: ((\w+)(: its tests)? (proved|NOT PROVED|is kept\b.*|ran\b.*)|(\w+): its tests (passed|FAILED))$")
 # `rt ci` counts a wrong body that it cannot read as no failure: it says nothing of a contract.
 BAD_EDIT = "BAD EDIT"
-# A line that tells a failure, and how many lines from it on tell what was wanted and what came.
+# A line that reports a failure, and how many lines from it on say what was wanted and what came.
 FAILURE = re.compile(r": (FAILED|BAD EDIT)\b|^(must-fail|rt): .*\b(NOT TRIED|NOT REFUSED|NOT PROVED|FAILED)\b")
 LINES_OF_A_FAILURE = 12
 # A line that belongs to no failure before it.
 OTHER = re.compile(r"^(rt: |gate: |== |\S+\.sh: \d+ passed)")
-# Why a crate is not proved is told in front of the line that says so, in its last lines.
+# Why a crate is not proved is printed before the line that says so, in its last lines.
 NOT_PROVED = re.compile(r"^rt: \w+(: its tests)? NOT PROVED$")
 LINES_IN_FRONT = 6
 SAMPLE_SECONDS = 2.0
@@ -124,7 +124,7 @@ class Part(threading.Thread):
         for name, command in self.parts:
             began = time.monotonic()
             self.into.put(("begins", name, None))
-            # Else a part behind this one would build anew what the first has built.
+            # Else a part after this one would build anew what the first has built.
             environment = dict(os.environ, CI="true", JX_PROGRAM=str(ROOT / "crates/jx/out/jx"), JX_LIBRARIES_ARE_BUILT="yes")
             started = subprocess.Popen(command, cwd=ROOT, env=environment, stdout=subprocess.PIPE, stderr=subprocess.STDOUT, text=True, errors="replace")
             for line in started.stdout:
@@ -148,7 +148,7 @@ class Gate:
         print("gate: %s %s" % (clock(time.monotonic() - self.began), text), flush=True)
 
     def parts(self, *lists):
-        """Runs lists of parts side by side, prints their lines, and counts what the last line of each tells."""
+        """Runs lists of parts side by side, prints their lines, and counts what the last line of each says."""
         said = queue.SimpleQueue()
         for each in lists:
             Part(each, said).start()

@@ -2,10 +2,10 @@
 """Writes the manual page, the completions of bash, zsh and fish, and README's table of options from what the program says of itself.
 
     tools/words.py PROGRAM            writes jx.1, completions/ and the table
-    tools/words.py --check PROGRAM    writes nothing, and tells which of them are old
+    tools/words.py --check PROGRAM    writes nothing, and names those that are old
 
 The help texts stand in crates/jx_command alone. What only the manual page says stands in tools/jx.1.in: a line that begins with
-`@` stands there for what is made here, and what stands behind `@behind WORD`, up to `@end`, is put behind the command or the
+`@` stands there for what is made here, and what follows `@behind WORD`, up to `@end`, is put after the command or the
 option of that name.
 """
 import collections
@@ -16,8 +16,8 @@ import sys
 
 ROOT = pathlib.Path(__file__).resolve().parent.parent
 TEMPLATE = ROOT / "tools/jx.1.in"
-# The words that an option takes, by the name of its value. Each other value is a file or a number.
-CHOICES = {"WHEN": "auto always never", "FORMAT": "plain gnu json"}
+# The words that an option takes, by the name of its value or by its own. Each other value is a file or a number.
+CHOICES = {"WHEN": "auto always never", "FORMAT": "plain gnu json", "--workers": "auto"}
 
 
 # ---- what the program says
@@ -36,7 +36,9 @@ class Option:
 
     def kind(self):
         """What its value is: `file`, `number`, or the words that it may be."""
-        return CHOICES.get(self.value, "file" if self.value == "FILE" else "number") if self.value else None
+        if not self.value:
+            return None
+        return CHOICES.get(self.name) or CHOICES.get(self.value, "file" if self.value == "FILE" else "number")
 
 
 class Command:
@@ -91,7 +93,7 @@ class Command:
 
 
 def said(program, *words):
-    """What a call for help tells on standard error."""
+    """What a call for help prints on standard error."""
     return subprocess.run([program, *words], stderr=subprocess.PIPE, stdin=subprocess.DEVNULL, text=True).stderr
 
 
@@ -197,7 +199,7 @@ def statuses(whole):
 
 
 def read_template():
-    """Its lines, and those to be put behind a command or an option."""
+    """Its lines, and those to be put after a command or an option."""
     kept, notes = [], collections.defaultdict(list)
     into = kept
     for line in TEMPLATE.read_text().split("\n"):

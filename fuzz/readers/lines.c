@@ -5,8 +5,9 @@
 
 static int is_blank(uint8_t byte) { return byte == ' ' || byte == '\t' || byte == '\n' || byte == '\r'; }
 
-static jx_verdict verdict_of_line(const uint8_t *bytes, jx_span span, int is_ended, uint32_t depth) {
-    const jx_settings inside = {depth, 0};
+static jx_verdict verdict_of_line(const uint8_t *bytes, jx_span span, int is_ended, const jx_settings *settings) {
+    /* The first line may be a part of a mark that is ignored. */
+    const jx_settings inside = {settings->depth, span.start == 0 ? settings->flags : 0};
     plain_rows rows;
     size_t front = span.start;
     while (front < span.end && is_blank(bytes[front])) front++;
@@ -23,7 +24,7 @@ size_t plain_lines(const uint8_t *bytes, size_t size, const jx_settings *setting
     *counts = (jx_line_counts){0, 0, 0};
     for (size_t start = has_mark ? 3 : 0, end; start < size; start = end + 1) {
         for (end = start; end < size && bytes[end] != '\n';) end++;
-        const jx_line line = {++number, {start, end}, verdict_of_line(bytes, (jx_span){start, end}, end < size, settings->depth)};
+        const jx_line line = {++number, {start, end}, verdict_of_line(bytes, (jx_span){start, end}, end < size, settings)};
         if (line.verdict.kind == JX_ACCEPTED) {
             counts->accepted++;
             continue;

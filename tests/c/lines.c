@@ -30,12 +30,13 @@ static int same_told(const told *a, const told *b) {
 
 static int is_blank(uint8_t byte) { return byte == ' ' || byte == '\t' || byte == '\r' || byte == '\n'; }
 
-static jx_verdict wanted_of(const uint8_t *bytes, size_t size, int is_ended, uint32_t depth, size_t at) {
+static jx_verdict wanted_of(const uint8_t *bytes, size_t size, int is_ended, const jx_settings *settings, size_t at) {
     jx_verdict verdict = {0, JX_BLANK};
     size_t front = 0;
     while (front < size && is_blank(bytes[front])) front++;
     if (front == size) return verdict;
-    if (jx_check(bytes, size, &(jx_settings){depth, 0}, &verdict) != JX_OK) exit(2);
+    /* The first line may be a part of a mark that is ignored. */
+    if (jx_check(bytes, size, &(jx_settings){settings->depth, at == 0 ? settings->flags : 0}, &verdict) != JX_OK) exit(2);
     if (verdict.kind == JX_STOPPED || verdict.kind == JX_TOO_DEEP) verdict.offset += at;
     if (verdict.kind == JX_ACCEPTED && !is_ended && strchr("0123456789el", bytes[size - 1]) != NULL) verdict.kind = JX_MAY_BE_CUT;
     return verdict;
@@ -48,7 +49,7 @@ static void wanted(const uint8_t *bytes, size_t size, const jx_settings *setting
     for (size_t number = 1; start < size; number++) {
         const uint8_t *feed = memchr(bytes + start, '\n', size - start);
         const size_t end = feed == NULL ? size : (size_t)(feed - bytes);
-        const jx_verdict verdict = wanted_of(bytes + start, end - start, feed != NULL, settings->depth, start);
+        const jx_verdict verdict = wanted_of(bytes + start, end - start, feed != NULL, settings, start);
         if (verdict.kind == JX_ACCEPTED) {
             all->counts.accepted++;
         } else {

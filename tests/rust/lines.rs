@@ -18,12 +18,17 @@ const INPUTS: &[&[u8]] = &[
 ];
 
 /// What a line of these bytes comes to that stands from an offset on.
-fn verdict_of(bytes: &[u8], at: usize, is_ended: bool, depth: u16) -> LineVerdict {
+fn verdict_of(bytes: &[u8], at: usize, is_ended: bool, settings: Settings) -> LineVerdict {
     use jx::Refusal::{Stopped, TooDeep};
     if bytes.iter().all(|byte| b" \t\r\n".contains(byte)) {
         return LineVerdict::Blank;
     }
-    match check(bytes, depth) {
+    // The first line may be a part of a mark that is ignored.
+    let settings = Settings {
+        ignore_mark: settings.ignore_mark && at == 0,
+        ..settings
+    };
+    match check(bytes, settings) {
         Ok(()) if !is_ended && b"0123456789el".contains(&bytes[bytes.len() - 1]) => {
             LineVerdict::MayBeCut
         }
@@ -49,7 +54,7 @@ fn wanted(input: &[u8], settings: Settings) -> (Vec<Line>, LineCounts) {
         }
         let feed = input[start..].iter().position(|byte| *byte == b'\n');
         let end = feed.map_or(input.len(), |length| start + length);
-        let verdict = verdict_of(&input[start..end], start, feed.is_some(), settings.depth);
+        let verdict = verdict_of(&input[start..end], start, feed.is_some(), settings);
         match verdict {
             LineVerdict::Accepted => counts.accepted += 1,
             LineVerdict::Blank => counts.blank += 1,

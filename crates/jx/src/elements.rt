@@ -15,8 +15,8 @@ use jx_values::report_elements;
 use std::sync::Wait;
 use std::thread::Threads;
 
-/// Reads what an order names by its workers, and writes the elements of the container that it asks for, or tells that its pointer
-/// is none.
+/// Reads what an order names by its workers, and writes the elements of the container that it asks for, or reports that its pointer
+/// is not one.
 pub fn write_elements_of<R: Threads + Wait + Sync>(
     rt: &HostRuntime,
     threads: &R,

@@ -46,7 +46,7 @@ fn shows_colors(rt: &HostRuntime) -> Result<bool, AllocError> {
     Ok(!is_dumb(rt)?)
 }
 
-/// Whether people are told that an input is accepted.
+/// Whether an accepted input is reported.
 fn tells_accepted(inputs: &Inputs<'_>, accepted: TellAccepted) -> bool {
     match (accepted, inputs) {
         (TellAccepted::Always, _) => true,
@@ -55,7 +55,7 @@ fn tells_accepted(inputs: &Inputs<'_>, accepted: TellAccepted) -> bool {
     }
 }
 
-/// How people are told of inputs.
+/// The form of reports to people.
 pub fn form_for(
     rt: &HostRuntime,
     inputs: &Inputs<'_>,
@@ -68,7 +68,7 @@ pub fn form_for(
     })
 }
 
-/// How what is told to people is marked.
+/// The highlighting of reports to people.
 fn marking_for(rt: &HostRuntime, color: Color) -> Result<Marking, AllocError> {
     let is_colored = match color {
         Color::Auto => shows_colors(rt)?,
@@ -92,7 +92,7 @@ fn told_name(rt: &HostRuntime, input: Input<'_>, form: Form) -> Result<Vec<u8>, 
     }
 }
 
-/// Tells in a form that an input of this name is accepted.
+/// Reports in a form that an input of this name is accepted.
 fn tell_accepted(
     rt: &HostRuntime,
     name: &[u8],
@@ -104,7 +104,7 @@ fn tell_accepted(
     Ok(Status::Good)
 }
 
-/// Tells the verdict on an input in a form. All of it is held.
+/// Reports the verdict on an input in a form. All of it is kept in memory.
 fn explain_held<R: Threads + Wait + Sync>(
     rt: &HostRuntime,
     threads: &R,
@@ -129,7 +129,7 @@ fn explain_held<R: Threads + Wait + Sync>(
     }
 }
 
-/// Tells the verdict on an input in a form. A long file is held only where a first pass over it finds it refused.
+/// Reports the verdict on an input in a form. A long file is kept in memory only where reading it once before finds it refused.
 fn explain_one<R: Threads + Wait + Sync>(
     rt: &HostRuntime,
     threads: &R,
@@ -149,7 +149,7 @@ fn explain_one<R: Threads + Wait + Sync>(
     explain_held(rt, threads, input, &name, command, form)
 }
 
-/// Tells the verdict on each input that words name, in their order. Where one is not to be had, that is told, and the others go on.
+/// Reports the verdict on each input that arguments name, in their order. One that cannot be read is reported, and the others go on.
 fn explain_words<R: Threads + Wait + Sync>(
     rt: &HostRuntime,
     threads: &R,
@@ -171,7 +171,7 @@ fn explain_words<R: Threads + Wait + Sync>(
     Ok(status)
 }
 
-/// Tells the verdict on each input in a form.
+/// Reports the verdict on each input in a form.
 pub fn explain_inputs<R: Threads + Wait + Sync>(
     rt: &HostRuntime,
     threads: &R,

@@ -4,7 +4,6 @@ use jx_ends::ReportFault;
 use jx_index::PointerFault;
 use jx_parts::PartsFault;
 use std::alloc::AllocError;
-use std::io;
 use thiserror::Error;
 
 /// Why the program gave no answer. Each shows as one line, or as clap's text.
@@ -16,23 +15,26 @@ pub enum Fault {
     /// Standard input is named twice.
     #[error("error: the word '-' stands for standard input, which is read once\n")]
     StandardTwice,
+    /// There is no such number of workers.
+    #[error("error: invalid value '{0}' for '--workers <N>': N is auto, or 1 to 64\n")]
+    Workers(String),
     /// No chunk of an index has so many bytes.
     #[error("error: invalid value for '--chunk <N>': N is no power of two\n")]
     Chunk,
-    /// A word is no text, as clap puts it.
+    /// An argument that is no FILE is not in UTF-8, as clap puts it.
     #[error("error: invalid UTF-8 was detected in one or more arguments\n")]
     NotText,
-    /// A string for a pointer is none, and no line is read.
+    /// A string for a pointer is not one, and no line is read.
     #[error("jx: {0}: {1}\n")]
     Misspelt(String, PointerFault),
-    /// A word for a pointer is none.
+    /// An argument for a pointer is not one.
     #[error("jx: {0}: the first word is a pointer, and FILE the second\n")]
     Pointer(PointerFault),
     #[error("jx: out of memory\n")]
     Memory(#[from(alloc)] AllocError),
     #[error("{0}\n")]
     Report(ReportFault),
-    /// A write of the output failed, and these words tell why.
+    /// A write of the output failed, for this reason.
     #[error("jx: write failed{0}\n")]
     Write(&'static str),
     #[error("{0}\n")]
@@ -43,10 +45,10 @@ pub enum Fault {
     /// An index is to be written to a terminal.
     #[error("jx: an index is not written to a terminal: write it to a file or a pipe\n")]
     TerminalForIndex,
-    /// What is wrong with an input was told already.
+    /// What is wrong with an input was reported already.
     #[error("")]
     Told,
-    /// The reader of the output has gone, and there is nothing to tell.
+    /// The reader of the output has gone, and there is nothing to report.
     #[error("")]
     Closed,
 }
@@ -60,19 +62,12 @@ impl Fault {
         }
     }
 
-    /// Where the system did not give the words.
-    pub fn of_words(error: io::Error) -> Fault {
-        match error.kind() {
-            io::ErrorKind::InvalidData => Fault::NotText,
-            _ => Fault::Memory(AllocError),
-        }
-    }
-
     /// Where the words are no command.
     pub fn of_arguments(fault: ArgFault) -> Fault {
         match fault {
             ArgFault::Clap(error) => Fault::Words(error),
             ArgFault::StandardTwice => Fault::StandardTwice,
+            ArgFault::Workers(word) => Fault::Workers(word),
             ArgFault::Chunk => Fault::Chunk,
             ArgFault::Memory => Fault::Memory(AllocError),
         }

@@ -1,4 +1,4 @@
-// Long files, which are read for their verdict before they are held.
+// Long files, which are read for their verdict before they are kept in memory.
 ghost use Rattle.std.specs.Prelude.{◌≤◌};
 
 use crate::fault::Fault;
@@ -13,7 +13,7 @@ use std::fs;
 use std::sync::Wait;
 use std::thread::Threads;
 
-/// How long a file is at least that is read once for its verdict before it is held.
+/// How long a file is at least that is read once for its verdict before it is kept in memory.
 const LONG: u64 = 8 * 1024 * 1024;
 
 /// Whether an input is a long file that can be read twice. A pipe can't, and is not opened to see that.

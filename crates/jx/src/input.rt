@@ -1,6 +1,7 @@
-// Inputs, and what is told where one is not to be had.
+// Inputs, and the reports on those that cannot be read.
 ghost use Rattle.std.specs.Prelude.{◌≡◌, ⊤, false, IfErr, IfOk};
 
+use crate::arguments::NOT_TEXT;
 use crate::fault::Fault;
 use crate::output::{Writer, fault_of_write};
 use crate::progress::{Watch, watch_of};
@@ -20,7 +21,7 @@ enum Origin {
     File(File),
 }
 
-/// An input that is open, why the last read of it failed, if it failed, and who tells how far it was read.
+/// An input that is open, why the last read of it failed, if it failed, and the watch that shows how far it was read.
 #[derive(Drop)]
 pub struct Opened<'r> {
     origin: Origin,
@@ -28,7 +29,7 @@ pub struct Opened<'r> {
     watch: Option<Watch<'r>>,
 }
 
-/// Tells a watch, if there is one, what a read came to. Where nothing was read, nothing is left.
+/// Gives a watch, if there is one, the result of a read. Where nothing was read, nothing is left.
 fn note(watch: &mut Option<Watch<'_>>, read: &io::Result<usize>) {
     if let Some(watch) = watch {
         match read {
@@ -63,8 +64,11 @@ fn unopened_by(error: &io::Error) -> FileFault {
     }
 }
 
-/// Opens a file. A folder opens too, and is told by what the system says of it.
+/// Opens a file. A directory opens too, and is reported with the system's message. A name that is not UTF-8 is that of no file.
 pub fn file_of(rt: &HostRuntime, path: &str) -> Result<File, FileFault> {
+    if path.contains(NOT_TEXT) {
+        return Err(FileFault::Open(Reason::Invalid));
+    }
     match File::open(rt, path) {
         Err(error) => Err(unopened_by(&error)),
         Ok(file) => match file.metadata() {
@@ -116,7 +120,7 @@ fn is_long(origin: &Origin) -> bool {
     }
 }
 
-/// The file that a reader reads from, where it is a regular one, of a MiB at least, and nobody is told how far it was read; else
+/// The file that a reader reads from, where it is a regular one, of a MiB at least, and no progress is shown; else
 /// the reader.
 pub fn file_in<'r>(reader: Reader<'r>) -> Result<File, Reader<'r>>
     ensures { IfErr result (λ back. back ≡ reader.entry) }
@@ -143,20 +147,20 @@ pub fn name_of<'a>(input: Input<'a>) -> &'a str {
     }
 }
 
-/// Tells of a fault of an input.
+/// Reports a fault of an input.
 pub fn told_of(rt: &HostRuntime, input: Input<'_>, fault: FileFault) -> Fault {
     tell(&mut End::new(rt.stderr()), name_of(input), fault);
     Fault::Told
 }
 
-/// Opens an input, or tells why it does not open.
+/// Opens an input, or reports why it does not open.
 pub fn open<'r>(rt: &'r HostRuntime, input: Input<'_>) -> Result<Reader<'r>, Fault>
     ensures { IfOk result (λ reader. reader.failed ≡ false) }
 {
     open_watched(rt, input, ShowProgress::Never)
 }
 
-/// The same, where it may be told how far it was read.
+/// Opens an input, or reports why it does not open. Its progress may be shown.
 pub fn open_watched<'r>(
     rt: &'r HostRuntime,
     input: Input<'_>,
@@ -171,8 +175,8 @@ pub fn open_watched<'r>(
     }
 }
 
-/// What the fault of a report on an input comes to. That of the input is told; where the reader of the output has gone, there is
-/// nothing to tell.
+/// The fault of a report on an input. A fault of the input is reported; where the reader of the output has gone, there is
+/// nothing to report.
 pub fn fault_of_report(
     rt: &HostRuntime,
     input: Input<'_>,

@@ -16,10 +16,10 @@ use jx_ndjson_report::{
 use std::sync::Wait;
 use std::thread::Threads;
 
-/// What is told of each input.
+/// What is reported of each input.
 #[derive(Drop)]
 enum Asked<'a> {
-    /// The lines that are no texts.
+    /// The lines that are not valid JSON.
     Lines(LinesOrder<'a>),
     /// The elements of a text sequence.
     Elements(LiveOrder<'a>),
@@ -32,7 +32,7 @@ enum Task {
     Elements(ElementsTask),
 }
 
-/// How it is told.
+/// The format of the report.
 fn way_of(asked: &Asked<'_>) -> Told {
     match asked {
         Asked::Lines(order) => order.told,
@@ -49,7 +49,7 @@ fn form_of(told: Told) -> LineForm {
     }
 }
 
-/// What stands in front of each line that is written of an input, which may be told by its name.
+/// The text in front of each line that is written of an input, which may have its name.
 fn front_of(
     rt: &HostRuntime,
     told: Told,
@@ -96,7 +96,7 @@ fn task_of(asked: &Asked<'_>, front: Vec<u8>) -> Task {
     }
 }
 
-/// Reads an input, and tells its lines or elements.
+/// Reads an input, and reports its lines or elements.
 fn tell_input<R: Threads + Wait + Sync>(
     rt: &HostRuntime,
     crew: &Crew<'_, R, OpenGate>,
@@ -127,7 +127,7 @@ fn list(rt: &HostRuntime, told: Told, input: Input<'_>, status: Status) -> Resul
     Ok(status)
 }
 
-/// Whether a fault was told already.
+/// Whether a fault was reported already.
 fn is_told(fault: &Fault) -> bool {
     match fault {
         Fault::Told => true,
@@ -135,7 +135,7 @@ fn is_told(fault: &Fault) -> bool {
     }
 }
 
-/// Whether memory was refused.
+/// Whether it was out of memory.
 fn is_of_memory(fault: &Fault) -> bool {
     match fault {
         Fault::Memory(_) => true,
@@ -165,7 +165,7 @@ fn status_of(
     Err(fault)
 }
 
-/// Tells the lines or elements of what a word names, each behind the word as it is shown.
+/// Reports the lines or elements of what an argument names, each after the name as it is shown.
 fn tell_word<R: Threads + Wait + Sync>(
     rt: &HostRuntime,
     crew: &Crew<'_, R, OpenGate>,
@@ -184,7 +184,7 @@ fn tell_word<R: Threads + Wait + Sync>(
     list(rt, way, input, status)
 }
 
-/// Tells the lines or elements of the one input that is read.
+/// Reports the lines or elements of the one input that is read.
 fn tell_one<R: Threads + Wait + Sync>(
     rt: &HostRuntime,
     crew: &Crew<'_, R, OpenGate>,
@@ -209,7 +209,7 @@ fn inputs_of<'o, 'a>(asked: &'o Asked<'a>) -> &'o Inputs<'a> {
     }
 }
 
-/// Reads inputs, and tells what is asked of each while it is read.
+/// Reads inputs, and reports what is asked of each while it is read.
 fn tell_inputs<R: Threads + Wait + Sync>(
     rt: &HostRuntime,
     crew: &Crew<'_, R, OpenGate>,
@@ -230,7 +230,7 @@ fn tell_inputs<R: Threads + Wait + Sync>(
     Ok(status)
 }
 
-/// Reads what an order names by its workers, and tells the lines that are no texts.
+/// Reads what an order names by its workers, and reports the lines that are not valid JSON.
 pub fn tell_lines_of<R: Threads + Wait + Sync>(
     rt: &HostRuntime,
     threads: &R,
@@ -248,7 +248,7 @@ pub fn tell_lines_of<R: Threads + Wait + Sync>(
     tell_inputs(rt, &crew, &Asked::Lines(order), piece)
 }
 
-/// Reads what an order names, and tells the elements. One worker reads.
+/// Reads what an order names, and reports the elements. One worker reads.
 pub fn tell_elements_of<R: Threads + Wait + Sync>(
     rt: &HostRuntime,
     threads: &R,

@@ -29,7 +29,7 @@ fn write_line_values(
     }
 }
 
-/// Writes the values that a task asks for of each line of an input, or tells which of its pointers is none.
+/// Writes the values that a task asks for of each line of an input, or reports which of its pointers is not one.
 pub fn write_line_values_of(
     rt: &HostRuntime,
     input: Input<'_>,

@@ -1,4 +1,4 @@
-// The file whose lines are words of the command line.
+// The file whose lines are arguments.
 ghost use Rattle.std.specs.Prelude.{◌≡◌};
 
 use crate::fault::Fault;

@@ -37,7 +37,7 @@ fn list_one<R: Threads + Wait + Sync>(
     Ok(Status::of_exit(exit))
 }
 
-/// The same of each input that words name, in their order. Where one is not to be had, that is told, and the others go on.
+/// Lists each input that arguments name, in their order. One that cannot be read is reported, and the others go on.
 fn list_words<R: Threads + Wait + Sync>(
     rt: &HostRuntime,
     threads: &R,

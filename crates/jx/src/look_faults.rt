@@ -1,15 +1,15 @@
-// What is told where a look-up by an index has no answer.
+// The report where a look-up by an index has no answer.
 use crate::fault::Fault;
 use crate::input::{Reader, told_of};
 use crate::output::{Writer, fault_of_write};
 use crate::text_file::TextFile;
+use jx_cmd_index::LookFault;
 use jx_command::Input;
 use jx_ends::{End, write_whole};
 use jx_files::{FileFault, shown_name};
-use jx_walk_report::LookFault;
 use std::alloc::AllocError;
 
-/// Tells what is wrong with a file.
+/// Reports what is wrong with a file.
 fn told_of_file(rt: &HostRuntime, path: &str, fault: &LookFault) -> Result<Fault, AllocError> {
     let alloc = rt.alloc();
     let mut line = Vec::from_slice(alloc, b"jx: ")?;
@@ -20,7 +20,7 @@ fn told_of_file(rt: &HostRuntime, path: &str, fault: &LookFault) -> Result<Fault
     Ok(Fault::Told)
 }
 
-/// What the fault of a look-up comes to. That of a file is told.
+/// The fault of a look-up. That of a file is reported.
 pub fn fault_of_look(
     rt: &HostRuntime,
     index: &str,

@@ -5,6 +5,7 @@
 
 ghost use Rattle.std.specs.Prelude.{◌≤◌};
 
+mod arguments;
 mod elements;
 mod explaining;
 mod fault;
@@ -28,11 +29,12 @@ mod text_file;
 mod values;
 mod values_by_index;
 
+use arguments::{arguments, order_by};
 use elements::write_elements_of;
 use explaining::{explain_inputs, form_for};
 use fault::Fault;
 use judged_lines::{tell_elements_of, tell_lines_of};
-use jx_command::{Input, Inputs, Order, Request, Told, command_of};
+use jx_command::{Input, Inputs, Order, Request, Told};
 use jx_explain::Form;
 use jx_files::Status;
 use jx_task::{Command, Task};
@@ -45,11 +47,10 @@ use places::write_places;
 use reporting::report_on_inputs;
 use saves::save_index;
 use splits::write_parts;
-use std::env;
 use std::io::ErrorKind;
 use std::process::ExitCode;
 use std::sync::Wait;
-use std::thread::Threads;
+use std::thread::{Threads, available_parallelism};
 use values::write_values_of;
 
 /// The status of a call that ends by a fault.
@@ -103,11 +104,19 @@ fn answer_request<R: Threads + Wait + Sync>(
     }
 }
 
+/// How many processors the process may use; 0 where that is not known.
+fn processors<R: Threads>(threads: &R) -> usize {
+    match available_parallelism(threads) {
+        Ok(count) => count.get(),
+        Err(_) => 0,
+    }
+}
+
 fn answer<R: Threads + Wait + Sync>(rt: &HostRuntime, threads: &R) -> Result<Status, Fault> {
     let alloc = rt.alloc();
-    let owned: Vec<String> = env::args(rt).map_err(Fault::of_words)?.collect(alloc)?;
+    let owned = arguments(rt)?;
     let words: Vec<&str> = owned.iter().map(|word| word.as_str()).collect(alloc)?;
-    match command_of(alloc, &words).map_err(Fault::of_arguments)? {
+    match order_by(rt, &words, processors(threads))? {
         Order::Report(request) => answer_request(rt, threads, request),
         Order::Parts(order) => work_on_parts(rt, &order),
         Order::Values(order) => write_values_of(rt, threads, order),

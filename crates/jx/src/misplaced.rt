@@ -1,4 +1,4 @@
-// Words that stand where a pointer should, and are none, or may be a file.
+// Arguments in the place of a pointer that are not one, or may be a file.
 use crate::fault::Fault;
 use crate::input::told_of;
 use jx_command::{Input, Inputs};
@@ -7,7 +7,7 @@ use jx_index::{Pointer, PointerFault};
 use jx_task::Task;
 use std::fs;
 
-/// Refuses words for pointers one of which is none, before anything is read. Mostly it is the name of a file.
+/// Refuses arguments for pointers one of which is not a pointer, before anything is read. Mostly it is the name of a file.
 pub fn refuse_misplaced(rt: &HostRuntime, words: &[String]) -> Result<(), Fault> {
     for word in words {
         match Pointer::read(word.as_str()) {

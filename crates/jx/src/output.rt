@@ -53,7 +53,7 @@ impl Write for Output {
 /// Where a report writes to.
 pub type Writer = End<Output>;
 
-/// What a fault of the output comes to. Where its reader has gone, there is nothing to tell.
+/// The fault of the output. Where its reader has gone, there is nothing to report.
 pub fn fault_of_write(writer: &Writer) -> Fault {
     if writer.inner.is_closed {
         Fault::Closed

@@ -37,7 +37,7 @@ fn work_between(
     }
 }
 
-/// Whether a step writes a run, which is no text.
+/// Whether a step writes a run, which is not valid JSON.
 fn writes_run(step: PartsStep) -> bool {
     match step {
         PartsStep::Part { .. } | PartsStep::Join => true,

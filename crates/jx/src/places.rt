@@ -4,10 +4,10 @@ use crate::input::open;
 use crate::look_faults::fault_of_look;
 use crate::output::Output;
 use crate::text_file::TextFile;
+use jx_cmd_index::report_places;
 use jx_command::Input;
 use jx_ends::End;
 use jx_files::Status;
-use jx_walk_report::report_places;
 
 /// Writes where pointers lead in the text of a file, by the index in another one.
 pub fn write_places(

@@ -23,7 +23,7 @@ pub struct Watch<'r> {
     is_open: bool,
 }
 
-/// Whether progress is told.
+/// Whether progress is shown.
 fn is_told(rt: &HostRuntime, progress: ShowProgress) -> bool {
     match progress {
         ShowProgress::Auto => rt.stderr().is_terminal(),
@@ -32,7 +32,7 @@ fn is_told(rt: &HostRuntime, progress: ShowProgress) -> bool {
     }
 }
 
-/// Watches an input of this size, if that is asked for. Without a clock nothing is told.
+/// Watches an input of this size, if that is asked for. Without a clock nothing is shown.
 pub fn watch_of(rt: &HostRuntime, progress: ShowProgress, size: Option<u64>) -> Option<Watch<'_>> {
     if !is_told(rt, progress) {
         return None;
@@ -76,7 +76,7 @@ impl<'r> Watch<'r> {
         self.is_open = true;
     }
 
-    /// Counts bytes that were read, and tells of them, ten times a second at most.
+    /// Counts bytes that were read, and shows them, ten times a second at most.
     pub fn count(&mut self, bytes: usize) {
         self.read = self.read.saturating_add(bytes as u64);
         let passed = self.passed();

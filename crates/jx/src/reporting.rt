@@ -41,7 +41,7 @@ fn report_from<R: Threads + Wait + Sync>(
     }
 }
 
-/// Reports on one input: a regular file is read at offsets where the command shares it among workers.
+/// Reports on one input: a regular file is read at offsets where several workers of the command read it.
 fn report_on<R: Threads + Wait + Sync>(
     rt: &HostRuntime,
     threads: &R,
@@ -61,7 +61,7 @@ fn report_on<R: Threads + Wait + Sync>(
     }
 }
 
-/// Reports on each of several inputs, behind the word that names it.
+/// Reports on each of several inputs, after the word that names it.
 fn report_on_words<R: Threads + Wait + Sync>(
     rt: &HostRuntime,
     threads: &R,
@@ -88,7 +88,7 @@ fn report_on_words<R: Threads + Wait + Sync>(
     }
 }
 
-/// Reports on one input, or on each of several behind the word that names it.
+/// Reports on one input, or on each of several after the word that names it.
 pub fn report_on_inputs<R: Threads + Wait + Sync>(
     rt: &HostRuntime,
     threads: &R,

@@ -2,10 +2,10 @@
 use crate::fault::Fault;
 use crate::input::{fault_of_report, open_watched};
 use crate::output::Output;
+use jx_cmd_index::report_index;
 use jx_command::SaveOrder;
 use jx_ends::End;
 use jx_files::Status;
-use jx_saved_report::report_index;
 use std::io::IsTerminal;
 
 /// Reads what an order names, and writes its index, which is not written to a terminal.

@@ -50,7 +50,7 @@ pub fn share<'r>(reader: Reader<'r>) -> Result<SharedFile, Reader<'r>>
     }
 }
 
-/// What the fault of a report on a file comes to.
+/// The fault of a report on a file.
 fn fault_of(
     rt: &HostRuntime,
     input: Input<'_>,

@@ -4,10 +4,10 @@ use crate::input::open;
 use crate::look_faults::fault_of_look;
 use crate::output::Output;
 use crate::text_file::TextFile;
+use jx_cmd_index::report_parts;
 use jx_command::{Input, SplitOrder};
 use jx_ends::End;
 use jx_files::Status;
-use jx_walk_report::report_parts;
 
 /// Writes the parts of the container that a pointer leads to in the text of a file, by the index in another one.
 pub fn write_parts(rt: &HostRuntime, order: &SplitOrder<'_>) -> Result<Status, Fault> {

@@ -3,9 +3,9 @@ ghost use Rattle.std.specs.Prelude.{◌≡◌, false, IfOk};
 
 use crate::fault::Fault;
 use crate::input::{file_of, told_of};
+use jx_cmd_index::ReadAt;
 use jx_command::Input;
 use jx_files::{FileFault, Reason};
-use jx_walk_report::ReadAt;
 use std::alloc::AllocError;
 use std::fs::File;
 use std::io;
@@ -21,7 +21,7 @@ pub struct TextFile {
 }
 
 impl TextFile {
-    /// Opens a file, or tells why it does not open. What is no regular file has no byte.
+    /// Opens a file, or reports why it does not open. What is no regular file has no byte.
     pub fn open(rt: &HostRuntime, path: &str) -> Result<TextFile, Fault>
         ensures { IfOk result (λ file. file.failed ≡ false) }
     {

@@ -4,11 +4,11 @@ use crate::input::open;
 use crate::look_faults::fault_of_look;
 use crate::output::Output;
 use crate::text_file::TextFile;
+use jx_cmd_index::report_values_by_index;
 use jx_command::Input;
 use jx_ends::End;
 use jx_files::Status;
 use jx_values::Form;
-use jx_walk_values::report_values_by_index;
 
 /// Writes the values that pointers lead to in the text of a file, by the index in another one.
 pub fn write_values_by_index(

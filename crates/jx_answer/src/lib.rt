@@ -21,8 +21,7 @@ pub use fault::Fault;
 pub use find_answer::Answer;
 pub use jx_index::TextAnswer;
 pub use laws::{
-    answers_are_one, answers_by_settings_are_one, any_names_change_nothing,
-    elements_by_settings_are_one, settings_that_are_off_change_no_answer,
-    verdicts_are_answers_without_indexes, verdicts_by_settings_are_one,
-    verdicts_on_elements_are_one,
+    answer_with_settings_off, unique_answer, unique_answer_by_settings, unique_element_verdicts,
+    unique_elements_by_settings, unique_verdicts_by_settings, verdict_without_a_rule_on_names,
+    verdict_without_index,
 };

@@ -19,7 +19,7 @@ const ROUNDS: usize = 5;
 
 const USAGE: &str = "usage: jx_bench steps|maps|runs|outcomes|stack|structures|reading|rows FILE";
 
-/// What one round took, and how many marks, runs or rows it found.
+/// What one round took, and how many token starts, runs or rows it found.
 #[derive(Clone, Copy)]
 struct Round {
     time: Duration,
@@ -45,7 +45,7 @@ fn timed(rt: &HostRuntime, task: Task, text: &[u8]) -> Result<Round> {
     })
 }
 
-// The rows alone: the marks are read before the clock starts.
+// The rows alone: the token starts are read before the clock starts.
 fn timed_rows(rt: &HostRuntime, text: &[u8]) -> Result<Round> {
     let started = reading_of(rt.alloc(), text)?;
     let start = Instant::now(rt)?;
@@ -56,7 +56,7 @@ fn timed_rows(rt: &HostRuntime, text: &[u8]) -> Result<Round> {
     })
 }
 
-// What the marks come to, alone, over one stack or from every entry: they are read before the clock starts.
+// The outcome of the token starts, alone, over one stack or from every entry: they are read before the clock starts.
 fn timed_marks(rt: &HostRuntime, text: &[u8], reduced: bool) -> Result<Round> {
     let started = reading_of(rt.alloc(), text)?;
     let start = Instant::now(rt)?;

@@ -10,10 +10,10 @@ use jx_reduce::{KnownStack, Reducer};
 use jx_run::{OutcomeRun, Started, Summary, TextRun, Verdict};
 use std::alloc::{AllocError, Global};
 
-/// The bytes of a piece, as `jx` cuts a text where it is told nothing else.
+/// The bytes of a chunk, as `jx` cuts a text by default.
 pub const PIECE: usize = 65536;
 
-/// Reads the text byte by byte up to its first fault, and counts the marks.
+/// Reads the text byte by byte up to its first fault, and counts the token starts.
 pub fn marks_by_step(text: &[u8]) -> u64 {
     let mut state = LexState::Gap;
     let mut marks = 0u64;
@@ -30,7 +30,7 @@ pub fn marks_by_step(text: &[u8]) -> u64 {
     marks
 }
 
-/// Makes the map of each piece of the text, and adds up the marks that they store.
+/// Makes the map of each chunk of the text, and adds up the token starts that they store.
 pub fn marks_by_map(alloc: Global, text: &[u8]) -> Result<u64, AllocError> {
     let mut marks = 0u64;
     for piece in text.chunks(PIECE) {
@@ -42,7 +42,7 @@ pub fn marks_by_map(alloc: Global, text: &[u8]) -> Result<u64, AllocError> {
     Ok(marks)
 }
 
-/// Makes the run of each piece of the text, and counts those that aren't refused as the beginning of a text.
+/// Makes the run of each chunk of the text, and counts those that aren't refused as the beginning of a text.
 pub fn runs_of_pieces(alloc: Global, text: &[u8]) -> Result<u64, AllocError> {
     let mut runs = 0u64;
     for piece in text.chunks(PIECE) {
@@ -54,7 +54,7 @@ pub fn runs_of_pieces(alloc: Global, text: &[u8]) -> Result<u64, AllocError> {
     Ok(runs)
 }
 
-/// Makes the outcome run of each piece of the text, and counts those that are texts.
+/// Makes the outcome run of each chunk of the text, and counts those that are texts.
 pub fn outcomes_of_pieces(alloc: Global, text: &[u8]) -> Result<u64, AllocError> {
     let mut texts = 0u64;
     for piece in text.chunks(PIECE) {
@@ -66,7 +66,7 @@ pub fn outcomes_of_pieces(alloc: Global, text: &[u8]) -> Result<u64, AllocError>
     Ok(texts)
 }
 
-/// Follows the marks of a text over one stack of open containers, and counts them.
+/// Follows the token starts of a text over one stack of open containers, and counts them.
 pub fn marks_over_stack(alloc: Global, started: &Started) -> Result<u64, AllocError> {
     let mut stack = KnownStack::new(alloc, Depth::default());
     stack.extend(started.marks())?;
@@ -77,7 +77,7 @@ pub fn marks_over_stack(alloc: Global, started: &Started) -> Result<u64, AllocEr
     })
 }
 
-/// Reduces the marks of a text as if nothing were known of where they begin, and counts them.
+/// Reduces the token starts of a text as if nothing were known of where they begin, and counts them.
 pub fn marks_reduced(alloc: Global, started: &Started) -> Result<u64, AllocError> {
     let mut reducer = Reducer::new(alloc, Depth::default());
     for mark in started.marks() {

@@ -4,21 +4,21 @@ ghost use Rattle.jx_bench.specs.declared.task.Task.TheVariants.{Steps, Maps, Run
 /// What is measured.
 #[derive(Clone, Copy, Debug)]
 pub enum Task {
-    /// The lexical machine, byte by byte, from between tokens: its marks are counted and none is kept.
+    /// The lexical machine, byte by byte, from between tokens: its token starts are counted and none is kept.
     Steps,
-    /// Chunk maps of pieces one after another, with their marks and ends.
+    /// Chunk maps of chunks one after another, with their token starts and ends.
     Maps,
-    /// Text runs of pieces one after another: their maps, and what the marks come to.
+    /// Text runs of chunks one after another: their maps, and the outcome of their token starts.
     Runs,
-    /// Outcome runs of pieces one after another: what their marks come to, which aren't kept.
+    /// Outcome runs of chunks one after another: the outcome of their token starts, which aren't kept.
     Outcomes,
-    /// The marks of a text's reading over one stack of open containers, from its start.
+    /// The token starts of a text's reading over one stack of open containers, from its start.
     Stack,
-    /// The structure of the same marks, given one by one.
+    /// The structure of the same token starts, given one by one.
     Structures,
-    /// The reading of a text from its start, as one run, with its marks and ends.
+    /// The reading of a text from its start, as one run, with its token starts and ends.
     Reading,
-    /// The rows of a text, from the marks and ends of its reading.
+    /// The rows of a text, from the token starts and ends of its reading.
     Rows,
 }
 

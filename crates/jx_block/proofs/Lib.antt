@@ -1,5 +1,7 @@
+pub mod BitCounts
 pub mod Bytes
 pub mod Listing
+pub mod NumberRuns
 pub mod Pieces
 pub mod ScalarPieces
 pub mod Told

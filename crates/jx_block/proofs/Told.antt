@@ -13,16 +13,12 @@ use Rattle.jx_lex.specs.Uneventful.{is_plain, is_blank, is_escaped}
 use Rattle.jx_lex.proofs.Bits.{differ}
 use Rattle.jx_block.specs.inside.Planes.{is_structural, is_stop}
 use Rattle.jx_block.specs.inside.Whole.{IsWhole}
+use Rattle.jx_block.specs.inside.Words.{behind}
 use Rattle.jx_block.specs.Listed.{is_set}
 use Rattle.jx_block.proofs.Bytes.{structural_stays, blank_goes, quote_begins, quote_closes, backslash_goes, plain_goes, escaped_goes}
 use Rattle.jx_block.proofs.Listing.{mark_at}
 use Rattle.jx_block.proofs.Pieces.{Piece, piece-none, piece-then, piece-one}
 use Rattle.jx_block.proofs.ScalarPieces.{piece-scalar}
-
--- the bit before
-abbrev pub behind : (ℕ → Bool) → ℕ → Bool
-behind f zero = false
-behind f (suc k) = f k
 
 -- a quotation mark that no backslash escapes
 abbrev pub is_real : ℕ → Bool → Bool

@@ -1,11 +1,12 @@
 -- Bits of words.
-use Rattle.std.proofs.Common.{◌≡◌, ◌≢◌, ℕ, zero, suc, ◌+◌, ◌-◌, ◌*◌, ◌/◌, ◌%◌, ◌^◌, ◌<◌, ◌≤◌, Bool, true, false, not, refl, sym, ap, ◌∙◌, ◌⊎◌, inl, inr, arith, w64, bit_and}
-use Rattle.std.specs.Prelude.{◌==◌, ◌&&◌}
+use Rattle.std.proofs.Common.{◌≡◌, ◌≢◌, ℕ, zero, suc, ◌+◌, ◌-◌, ◌*◌, ◌/◌, ◌%◌, ◌^◌, ◌<◌, ◌≤◌, Bool, true, false, not, refl, sym, ap, ◌∙◌, ◌⊎◌, inl, inr, arith, w64, bit_and, List, length, get_or, map}
+use Rattle.std.specs.Prelude.{◌==◌, ◌&&◌, ◌||◌}
 use Rattle.std.specs.Int.{bit_at, trailing_zeros}
+use Rattle.std.specs.Simd.Lanes.{mask_l}
 use Rattle.std.proofs.lemmas.Bool.{cases_lt}
 use Rattle.std.proofs.lemmas.Nat.Bits.{bit_at-trailing_zeros, bit_at_lowest, bit_at-suc, bit_at-zero, ones_shr, bit_at_ones}
 use Rattle.jx_lex.specs.inside.Bits.{bit}
-use Rattle.jx_lex.proofs.Bits.{bit-and, bit-xor, bit-up, no_difference_above}
+use Rattle.jx_lex.proofs.Bits.{bit-and, bit-mask, bit-xor, bit-up, no_difference_above}
 
 -- the lowest n bits
 pub bit-low : (n k : ℕ) → n ≤ 64 → k < n → bit ((2 ^ 64 - 1) / 2 ^ (64 - n)) k ≡ true
@@ -108,3 +109,11 @@ pub left_none : (s a : Bool) → (s && not a) ≡ false → s ≡ true → a ≡
 left_none true true h e = e
 left_none true false h e = absurd cc
 left_none false a h e = absurd cc
+
+-- a test of the lanes of a block
+pub lane : (p : ℕ → Bool) (v : List ℕ) (w k : ℕ) → length v ≡ 64 → w ≡ mask_l (map p v) → k < 64 → bit w k ≡ p (get_or v k 0)
+lane p v w k long is lt = ap (λ w. bit w k) is ∙ bit-mask p v k (omega (arith, long))
+
+pub regroup : (x d e f : Bool) → (x || ((d || e) || f)) ≡ (((x || d) || e) || f)
+regroup true d e f = refl
+regroup false d e f = refl

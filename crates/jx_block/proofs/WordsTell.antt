@@ -16,16 +16,21 @@ use Rattle.jx_lex.proofs.Bits.{bit-and, bit-or, bit-not, bit-xor, bit-none, bit-
 use Rattle.jx_block.specs.inside.Planes.{is_structural, is_stop}
 use Rattle.jx_block.specs.inside.Whole.{IsWhole}
 use Rattle.jx_block.specs.Listed.{marks_of}
-use Rattle.jx_block.proofs.Told.{Told, behind, is_real, is_other, told_read, stands}
+use Rattle.jx_block.specs.inside.Words.{behind}
+use Rattle.jx_block.proofs.Told.{Told, is_real, is_other, told_read, stands}
 
 abbrev pub flip : ℕ → ℕ
 flip w = 2 ^ 64 - 1 - w
+
+-- a byte of a block
+pub block_byte : (text : List ℕ) (at k : ℕ) → k < 64 → get_or (chunk at 64 text) k 0 ≡ get_or text (at + k) 0
+block_byte text at k lt = get_or-take 64 (drop at text) k 0 lt ∙ get_or-drop at text k 0
 
 -- a test of the bytes of a block
 pub test_at : (p : ℕ → Bool) (text : List ℕ) (at w : ℕ) → at + 64 ≤ length text → w ≡ mask_l (map p (chunk at 64 text)) → (k : ℕ) → k < 64 → bit w k ≡ p (get_or text (at + k) 0)
 test_at p text at w fits is k lt =
     let long = length-chunk at 64 text fits in
-    ap (λ w. bit w k) is ∙ bit-mask p (chunk at 64 text) k (omega (arith, long)) ∙ ap p (get_or-take 64 (drop at text) k 0 lt ∙ get_or-drop at text k 0)
+    ap (λ w. bit w k) is ∙ bit-mask p (chunk at 64 text) k (omega (arith, long)) ∙ ap p (block_byte text at k lt)
 
 -- a shift to the left by one
 pub shifted : (w k : ℕ) → k < 64 → bit (w * 2 % 2 ^ 64) k ≡ behind (bit w) k
@@ -33,6 +38,10 @@ shifted w zero lt = bit-up_first w
 shifted w (suc k) lt =
     let e : k + 1 ≡ suc k = omega arith in
     ap (bit (w * 2 % 2 ^ 64)) (sym e) ∙ bit-up w 1 k (omega arith)
+
+pub behind_same : (f g : ℕ → Bool) (k : ℕ) → ((j : ℕ) → suc j ≡ k → f j ≡ g j) → behind f k ≡ behind g k
+behind_same f g zero same = refl
+behind_same f g (suc k) same = same k refl
 
 pub but : (a b k : ℕ) → b < 2 ^ 64 → k < 64 → bit (bit_and a (flip b)) k ≡ (bit a k && not (bit b k))
 but a b k fits lt = bit-and a (flip b) k ∙ ap (λ t. bit a k && t) (bit-not b k fits lt)
@@ -71,8 +80,8 @@ plain_of true o false false true h i j k l = absurd cc
 -- e what is escaped, i what goes on inside a string; x scalars that are wrong.
 module _ (text : List ℕ) (at q b l o w s e i x n fs : ℕ) (fits : at + 64 ≤ length text) (q_is : q ≡ mask_l (map (λ byte. byte == 0x22) (chunk at 64 text)))
     (b_is : b ≡ mask_l (map (λ byte. byte == 0x5c) (chunk at 64 text))) (l_is : (e ≡ 0) ⊎ (l ≡ mask_l (map is_escaped (chunk at 64 text))))
-    (o_is : o ≡ mask_l (map (λ byte. not (is_plain byte)) (chunk at 64 text))) (w_is : w ≡ mask_l (map is_blank (chunk at 64 text)))
-    (s_is : s ≡ mask_l (map is_structural (chunk at 64 text)))
+    (o_is : o ≡ mask_l (map (λ byte. not (is_plain byte)) (chunk at 64 text)))
+    (w_is : (k : ℕ) → k < 64 → bit w k ≡ is_blank (get_or (chunk at 64 text) k 0)) (s_is : (k : ℕ) → k < 64 → bit s k ≡ is_structural (get_or (chunk at 64 text) k 0))
     (q_fits : q < 2 ^ 64) (b_fits : b < 2 ^ 64) (w_fits : w < 2 ^ 64) (s_fits : s < 2 ^ 64) (l_fits : l < 2 ^ 64) (e_fits : e < 2 ^ 64) where
   abbrev pub real : ℕ
   real = bit_and (flip e) q
@@ -118,7 +127,7 @@ module _ (text : List ℕ) (at q b l o w s e i x n fs : ℕ) (fits : at + 64 ≤
       bit-not (bit_or (bit_or (bit_or before w) s) q) k taken_fits lt
       ∙ ap not
       (bit-or (bit_or (bit_or before w) s) q k
-      ∙ (λ j. (bit-or (bit_or before w) s k ∙ (λ j. (bit-or before w k ∙ ap (λ t. bit before k || t) (test_at is_blank text at w fits w_is k lt)) j || test_at is_structural text at s fits s_is k lt j)) j || quote_at k lt j))
+      ∙ (λ j. (bit-or (bit_or before w) s k ∙ (λ j. (bit-or before w k ∙ ap (λ t. bit before k || t) (w_is k lt ∙ ap is_blank (block_byte text at k lt))) j || (s_is k lt ∙ ap is_structural (block_byte text at k lt)) j)) j || quote_at k lt j))
 
   shifted_fits : scalars * 2 % 2 ^ 64 < 2 ^ 64
   shifted_fits = mod-lt (scalars * 2) (pow_pos 64)
@@ -132,7 +141,7 @@ module _ (text : List ℕ) (at q b l o w s e i x n fs : ℕ) (fits : at + 64 ≤
       bit-or (bit_or (bit_and (flip before) s) (bit_and real i)) firsts k
       ∙ (λ j.
       (bit-or (bit_and (flip before) s) (bit_and real i) k
-      ∙ (λ j. (and_but s before k before_fits lt ∙ ap (λ t. not (bit before k) && t) (test_at is_structural text at s fits s_is k lt)) j || (bit-and real i k ∙ ap (λ t. t && bit i k) (real_at k lt)) j)) j
+      ∙ (λ j. (and_but s before k before_fits lt ∙ ap (λ t. not (bit before k) && t) (s_is k lt ∙ ap is_structural (block_byte text at k lt))) j || (bit-and real i k ∙ ap (λ t. t && bit i k) (real_at k lt)) j)) j
       || first_at k lt j)
 
   letter_at : (k : ℕ) → k < 64 → bit e k ≡ true → bit l k ≡ is_escaped (byte k)
@@ -149,7 +158,7 @@ module _ (text : List ℕ) (at q b l o w s e i x n fs : ℕ) (fits : at + 64 ≤
   marked_fits = or_lt 64 (bit_or e q) b (or_lt 64 e q e_fits q_fits) b_fits
 
   module _ (few : n < 64) (right : (k : ℕ) → k < n → bit wrong k ≡ false) (between : bit (bit_or (bit_or e (scalars * 2 % 2 ^ 64)) before) n ≡ false)
-      (whole : (k : ℕ) → k < 64 → bit firsts k ≡ true → ((j : ℕ) → j ≤ k → bit x j ≡ false) → IsWhole text at (bit scalars) stop k)
+      (whole : (k m : ℕ) → k ≤ m → m < 64 → bit scalars m ≡ false → bit firsts k ≡ true → ((j : ℕ) → j ≤ m → bit x j ≡ false) → IsWhole text at (bit scalars) stop k)
       (fs_kept : (k : ℕ) → k < n → bit fs k ≡ bit starts k) where
     low : (k : ℕ) → k < n → k < 64
     low k lt = omega arith
@@ -167,6 +176,13 @@ module _ (text : List ℕ) (at q b l o w s e i x n fs : ℕ) (fits : at + 64 ≤
     -- the place n is in no scalar, and the byte before it no backslash
     parted : (bit e n ≡ false) × (bit (scalars * 2 % 2 ^ 64) n ≡ false)
     parted = neither e (scalars * 2 % 2 ^ 64) n (neither (bit_or e (scalars * 2 % 2 ^ 64)) before n between).0
+
+    -- a scalar that begins before the place n ends before it
+    whole_before : (k m : ℕ) → k < m → m ≡ n → bit scalars k ≡ true → behind (bit scalars) k ≡ false → IsWhole text at (bit scalars) stop k
+    whole_before k zero lt is set fresh = absurd (omega arith)
+    whole_before k (suc m) lt is set fresh =
+        whole k m (omega arith) (omega arith) (ap (behind (bit scalars)) is ∙ sym (shifted scalars n few) ∙ parted.1)
+        (first_at k (low k (omega arith)) ∙ (λ j. set j && not (fresh j))) (λ j le. (parts j (omega arith)).4)
 
     told : Told text at fs (bit e) (bit i) (bit before) (bit scalars) stop n
     unfolding bit
@@ -190,8 +206,7 @@ module _ (text : List ℕ) (at q b l o w s e i x n fs : ℕ) (fits : at + 64 ≤
           inside free (quote_at k (low k lt) ∙ no_quote) (test_at (λ byte. byte == 0x5c) text at b fits b_is k (low k lt) ∙ no_backslash));
       other = scalar_at;
       stops = λ k lt. refl;
-      whole = λ k lt set fresh.
-          whole k (low k lt) (first_at k (low k lt) ∙ (λ j. set j && not (fresh j))) (λ j le. (parts j (omega arith)).4);
+      whole = λ k lt set fresh. whole_before k n lt refl set fresh;
       starts_are = λ k lt. fs_kept k lt ∙ starts_at k (low k lt);
       boundary = sym (shifted scalars n few) ∙ parted.1;
     }

@@ -1,2 +1,4 @@
+pub mod Numbers
 pub mod Planes
 pub mod Whole
+pub mod Words

@@ -3,12 +3,14 @@ ghost use Rattle.std.specs.Prelude.{◌≡◌, ◌≤◌, ◌<◌, ◌+◌, ◌^
 ghost use Rattle.jx_lex.specs.declared.alphabet.state.LexState.TheVariants.{Gap};
 ghost use Rattle.jx_lex.specs.Lex as reading;
 ghost use Rattle.jx_lex.specs.Lex.{lex};
+ghost use Rattle.jx_block.specs.Kinds.{AreKinds};
 ghost use Rattle.jx_block.specs.Listed.{marks_of};
 
 use crate::cutting::{first_bits, last_boundary};
+use crate::kinds::kinds_of;
 use crate::masks::Masks;
 use crate::planes::{backslashes, blanks, letters_where, others, quotes, structurals};
-use crate::scalars::wrong_scalar;
+use crate::scalars::judged_scalars;
 use crate::strings::{behind_odd_runs, prefix_xor};
 use std::simd::prelude::*;
 
@@ -27,6 +29,7 @@ pub fn read_tokens(text: &[u8], at: usize) -> Option<Masks>
     ensures marks { IfSome result (λ masks. (lex Gap at (slice_range text.now at (at + masks.len))).marks ≡ marks_of masks.starts 0 at (slice_range text.now at (at + masks.len))) }
     ensures exit { IfSome result (λ masks. (lex Gap at (slice_range text.now at (at + masks.len))).exit ≡ reading.state Gap) }
     ensures few { IfSome result (λ masks. masks.starts < 2 ^ masks.len) }
+    ensures kinds { IfSome result (λ masks. AreKinds text.now at masks.starts masks.kinds) }
 {
     if text.len() - at < BLOCK {
         return None;
@@ -41,19 +44,24 @@ pub fn read_tokens(text: &[u8], at: usize) -> Option<Masks>
     let before = inside << 1;
     let scalars = !(before | blanks | structurals | quotes);
     let firsts = scalars & !(scalars << 1);
+    let judged = judged_scalars(text, at, block, scalars, firsts);
     // What was computed by sums and shifts is looked at once more, bit by bit, so that all that follows rests on this alone.
     let wrong = (inside ^ (before ^ real))
         | ((escaped >> 1) ^ (!escaped & backslashes))
         | (escaped & !(letters_where(block, escaped) & before))
         | (before & others(block) & !(escaped | quotes | backslashes))
-        | wrong_scalar(text, at, scalars, firsts);
+        | judged.wrong;
     let len = last_boundary(escaped | (scalars << 1) | before, wrong);
     if len == 0 {
         return None;
     }
-    let starts = (!before & structurals) | (real & inside) | firsts;
+    let all = (!before & structurals) | (real & inside) | firsts;
+    let starts = first_bits(all, len);
+    let kinds = kinds_of(block, starts)?;
     Some(Masks {
         len,
-        starts: first_bits(starts, len),
+        starts,
+        kinds,
+        one_by_one: judged.one_by_one,
     })
 }

@@ -1,10 +1,14 @@
 // Numbers and literals of a block, read at their places.
 ghost use Rattle.std.specs.Prelude.{◌≡◌, ◌≤◌, ◌<◌, ◌+◌, ℕ, IsTrue, true, false, length, slice_index};
+ghost use Rattle.std.specs.Simd.Lanes.{chunk};
 ghost use Rattle.jx_lex.specs.inside.Bits.{bit};
 ghost use Rattle.jx_block.specs.inside.Planes.{is_stop};
 ghost use Rattle.jx_block.specs.inside.Whole.{IsScalar, IsWhole};
 
+use crate::numbers::wrong_number;
+use crate::planes::number_firsts;
 use jx_lex::{pass_literal, pass_number};
+use std::simd::prelude::*;
 
 /// Whether the bytes between two offsets are one number or one literal, as far as what follows lets it end.
 #[inline(always)]
@@ -55,20 +59,81 @@ fn is_whole(text: &[u8], at: usize, scalars: u64, k: usize) -> bool
     is_scalar(text, at + k, at + end)
 }
 
-/// The bit of the first run that is not one whole scalar, or 0. Each run begins at a bit of `firsts`.
+/// Runs that were looked at one by one.
+#[derive(Clone, Copy)]
+struct Visited {
+    /// The bit of the first of them that is not one whole scalar, or 0.
+    wrong: u64,
+    /// Their bytes. Who uses them looks at each bit once more, so that no proof rests on them.
+    taken: u64,
+}
+
+/// The bytes of the run of bits that begins at one.
 #[inline(always)]
-pub(crate) fn wrong_scalar(text: &[u8], at: usize, scalars: u64, firsts: u64) -> u64
+fn run_from(word: u64, k: usize) -> u64
+    requires { k < 64 }
+{
+    word & !word.wrapping_add(1 << k)
+}
+
+/// Looks at the runs that begin at these places one by one.
+#[inline(always)]
+fn visit(text: &[u8], at: usize, scalars: u64, firsts: u64) -> Visited
     requires bounds { at + 64 ≤ length text.now }
     requires begun { (k : ℕ) → k < 64 → bit firsts k ≡ true → bit scalars k ≡ true }
-    ensures whole { (k : ℕ) → k < 64 → bit firsts k ≡ true → ((j : ℕ) → j ≤ k → bit result j ≡ false) → IsWhole text.now at (bit scalars) (λ j. is_stop (slice_index text.now (at + j))) k }
+    ensures whole { (k : ℕ) → k < 64 → bit firsts k ≡ true → ((j : ℕ) → j ≤ k → bit result.wrong j ≡ false) → IsWhole text.now at (bit scalars) (λ j. is_stop (slice_index text.now (at + j))) k }
 {
     let mut rest = firsts;
+    let mut taken = 0;
     while rest != 0 {
         let k = rest.trailing_zeros() as usize;
         if !is_whole(text, at, scalars, k) {
-            return 1 << k;
+            return Visited {
+                wrong: 1 << k,
+                taken,
+            };
         }
+        taken |= run_from(scalars, k);
         rest &= rest - 1;
     }
-    0
+    Visited { wrong: 0, taken }
+}
+
+/// What is known of the numbers and literals of a block.
+#[derive(Clone, Copy)]
+pub(crate) struct Judged {
+    /// Where one of them is wrong: at its first byte or behind it, at most at the byte behind its last.
+    pub wrong: u64,
+    /// The first bytes of those that were looked at one by one: the literals.
+    pub one_by_one: u64,
+}
+
+/// Judges the runs that begin at these places. Each is one whole scalar whose end is before a place up to which nothing is
+/// wrong.
+#[inline(always)]
+pub(crate) fn judged_scalars(
+    text: &[u8],
+    at: usize,
+    block: u8x64,
+    scalars: u64,
+    firsts: u64,
+) -> Judged
+    requires bounds { at + 64 ≤ length text.now }
+    requires block { block ≡ chunk at 64 text.now }
+    requires begun { (k : ℕ) → k < 64 → bit firsts k ≡ true → bit scalars k ≡ true }
+    ensures whole { (k n : ℕ) → k ≤ n → n < 64 → bit scalars n ≡ false → bit firsts k ≡ true → ((j : ℕ) → j ≤ n → bit result.wrong j ≡ false) → IsWhole text.now at (bit scalars) (λ j. is_stop (slice_index text.now (at + j))) k }
+{
+    let numbers = firsts & number_firsts(block);
+    let one_by_one = firsts & !numbers;
+    let visited = visit(text, at, scalars, one_by_one);
+    if numbers == 0 {
+        return Judged {
+            wrong: visited.wrong,
+            one_by_one,
+        };
+    }
+    Judged {
+        wrong: visited.wrong | wrong_number(text, at, block, scalars, visited.taken, numbers),
+        one_by_one,
+    }
 }

@@ -6,11 +6,11 @@ use Rattle.jx_index.specs.ByNames.{a_text}
 use Rattle.jx_index.specs.declared.find_fault.FindFault.{FindFault}
 use Rattle.jx_index.specs.declared.finder.Found.{Found}
 use Rattle.jx_index.specs.Found.{AreFoundIn}
-use Rattle.jx_saved_names.specs.declared.saved_text.SavedText.{SavedText}
-use Rattle.jx_split.specs.declared.cutting.Aim.{Aim}
-use Rattle.jx_split.specs.declared.split.PausedSplit.{PausedSplit}
-use Rattle.jx_split.specs.Paused as split
-use Rattle.jx_walk.specs.declared.walk.PausedWalk.{PausedWalk}
+use Rattle.jx_file_index.specs.declared.saved_text.SavedText.{SavedText}
+use Rattle.jx_file_query.specs.declared.cutting.Aim.{Aim}
+use Rattle.jx_file_query.specs.declared.split.PausedSplit.{PausedSplit}
+use Rattle.jx_file_query.specs.PausedSplits as split
+use Rattle.jx_file_query.specs.declared.walk.PausedWalk.{PausedWalk}
 use Rattle.jx_c.specs.LookUps.{AreFoundBy}
 use Rattle.jx_c.specs.Opened.{HasWalked, IsLedOn, IsTold, any_names}
 use Rattle.jx_c.specs.declared.texts.all.JxPointer.{JxPointer}

@@ -8,16 +8,16 @@ use Rattle.jx_compact.specs.Compact.{compact}
 abbrev pub begins_with_mark : List ℕ → Bool
 begins_with_mark bytes = slice_index bytes 0 == 0xef && slice_index bytes 1 == 0xbb && slice_index bytes 2 == 0xbf
 
--- the bytes behind a byte order mark, where one is ignored
+-- the bytes after a byte order mark, where one is ignored
 abbrev pub behind_mark : FrontMark → List ℕ → List ℕ
 behind_mark Refused bytes = bytes
 behind_mark Ignored bytes = if begins_with_mark bytes then drop 3 bytes else bytes
 
--- the compact form of a text by settings: an ignored mark is left out
+-- the compact form of a text by settings: an ignored byte order mark is left out
 abbrev pub compact_by : Settings → List ℕ → List ℕ
 compact_by settings bytes = compact (behind_mark settings.mark bytes)
 
--- it stands at the front of the buffer, and what stood behind that is as it was
+-- it is at the front of the buffer, and the rest of the buffer is as it was
 pub record IsPlaced (form old new : List ℕ) (size : ℕ) : Type 0 where
   pub size_is : size ≡ length form
   pub fits : size ≤ length old

@@ -1,4 +1,4 @@
--- What the calls on documents tell.
+-- The results of calls on documents.
 use Rattle.std.specs.Prelude.{◌≡◌, ℕ, Err, Ok, Result}
 use Rattle.jx_edit.specs.Document.{DocumentValue}
 use Rattle.jx_edit.specs.declared.document_fault.DocumentFault.{DocumentFault}

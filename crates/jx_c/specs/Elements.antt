@@ -23,7 +23,7 @@ shown_verdict element.Unmarked = record { offset = 0; kind = 5 }
 abbrev pub shown_element : JudgedElement → JxElement
 shown_element e = record { span = shown_span e.span; verdict = shown_verdict e.verdict }
 
--- how many elements the sequence has, and in the buffer what each comes to by settings
+-- how many elements the sequence has, and in the buffer the verdict on each by settings
 pub record AreElementsOf (settings : Settings) (sequence : List ℕ) (old new : List JxElement) (count : ℕ) : Type 0 where
   pub count_is : count ≡ length (elements_by settings.mark sequence)
   pub judged : List JudgedElement

@@ -1,4 +1,4 @@
--- What the calls on indexes tell.
+-- The results of calls on indexes.
 use Rattle.std.specs.Prelude.{◌≡◌, ℕ, ◌≤◌, List, Option, None, Some, Result, Ok, MatchResult, Vec, drop, length, slice_get}
 use Rattle.std.specs.List.{AllZip}
 use Rattle.std.specs.declared.alloc.Global.{Global}
@@ -31,11 +31,11 @@ abbrev pub IsHeldBy : Settings → List ℕ → Option IndexedValue → Verdict 
 IsHeldBy settings text held Accepted = (index : IndexedValue) × (held ≡ Some index) × IsIndexBy settings text index
 IsHeldBy settings text held (Refused refusal) = held ≡ None
 
--- the verdict by settings on the text, and by it what is held
+-- the verdict by settings on the text, and by it what is kept
 abbrev pub IsMadeBy : Settings → List ℕ → Option IndexedValue → JxVerdict → Type 0
 IsMadeBy settings text held told = (verdict : Verdict) × IsVerdictBy settings text verdict × (told ≡ shown verdict) × IsHeldBy settings text held verdict
 
--- what the pointer comes to in the text, of whatever text and settings the index is
+-- the answer to the pointer in the text, of whatever text and settings the index is
 abbrev pub IsLookUpIn : IndexedValue → List ℕ → LookUp → Type 0
 IsLookUpIn index pointer look_up = (settings : Settings) (text : List ℕ) → IsIndexOf settings text index → IsLookUp settings text pointer look_up
 
@@ -57,11 +57,11 @@ row_at index number = shown_if_any (slice_get index.rows number)
 abbrev pub AreFound : Settings → List ℕ → List JxPointer → List (Result Found FindFault) → Type 0
 AreFound settings text = AllZip (λ (pointer : JxPointer) (found : Result Found FindFault). IsSpelt pointer.bytes.now → IsFoundBy settings text pointer.bytes.now (Ok found))
 
--- what reading the text for them came to: that, or the refusal
+-- the result of reading the text for them, or the refusal
 abbrev pub IsReadFor : Settings → List ℕ → List JxPointer → Result (Vec (Result Found FindFault) Global) Refusal → Type 0
 IsReadFor settings text pointers read = MatchResult read (λ all. AreFound settings text pointers all.items) (λ refusal. IsVerdictBy settings text (Refused refusal))
 
--- each answer for which there is room tells what the pointer of its number comes to, and the rest of the buffer is as it was
+-- each answer for which there is room is that to the pointer of its number, and the rest of the buffer is as it was
 pub record AreAnswersOf (settings : Settings) (text : List ℕ) (pointers : List JxPointer) (old new : List JxAnswer) : Type 0 where
   pub long : length new ≡ length old
   pub told : (n : ℕ) (pointer : JxPointer) (answer : JxAnswer) → slice_get pointers n ≡ Some pointer → slice_get new n ≡ Some answer

@@ -1,4 +1,4 @@
--- What the calls on JSON Lines tell.
+-- The results of calls on JSON Lines.
 use Rattle.std.specs.Prelude.{◌≡◌, ℕ, ◌+◌, ◌≤◌, List, [], ◌++◌, Option, None, Some, length}
 use Rattle.jx_run.specs.declared.texts.settings.Settings.{Settings}
 use Rattle.jx_run.specs.declared.texts.verdict.Verdict.TheVariants as verdict
@@ -41,7 +41,7 @@ end_of t = t.lines.reader.start + t.lines.reader.count
 abbrev pub IsNew : Settings → Option TallyValue → Type 0
 IsNew settings held = (t : TallyValue) × (held ≡ Some t) × HasTaken settings [] [] t
 
--- whatever input it was fed, now it was fed these bytes behind it
+-- whatever input it was fed, now it was fed these bytes after it
 abbrev pub IsFed : TallyValue → List ℕ → Option TallyValue → Type 0
 IsFed old bytes held =
     (t : TallyValue) × (held ≡ Some t) × ((settings : Settings) (input : List ℕ) (given : List JudgedLine) → HasTaken settings input given old → HasTaken settings (input ++ bytes) given t)
@@ -56,7 +56,7 @@ pub record IsTaken (old : TallyValue) (before after : List JxLine) (count : ℕ)
   pub none_wait : t.waiting ≡ []
   pub gives : (settings : Settings) (input : List ℕ) (given : List JudgedLine) → HasTaken settings input given old → HasTaken settings input (given ++ old.waiting) t
 
--- with the lines that were given, those that wait and the last one, these are all lines of the input that are no texts; and so
+-- with the lines that were given, those that wait and the last one, these are all lines of the input that are not valid JSON; and so
 -- many lines there are of each kind
 abbrev pub IsEndOf : TallyValue → JxLine → JxLineCounts → Type 0
 IsEndOf t last counts =

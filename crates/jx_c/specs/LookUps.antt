@@ -1,4 +1,4 @@
--- What the bytes of a pointer come to in bytes (RFC 6901), and how C sees it.
+-- The answer to the bytes of a pointer in bytes (RFC 6901), and how C sees it.
 use Rattle.std.specs.Prelude.{◌≡◌, ℕ, List, None, Result, Ok, Err}
 use Rattle.std.specs.List.{AllZip}
 use Rattle.std.specs.Str.{IsUtf8}
@@ -40,11 +40,11 @@ IsLed text tree pointer (BadPointer fault) = ⊥
 IsLed text tree pointer NotUtf8 = ⊥
 IsLed text tree pointer (NoText refused) = ⊥
 
--- the bytes are in UTF-8 and spell a pointer
+-- the bytes are a pointer in UTF-8
 abbrev pub IsSpelt : List ℕ → Type 0
 IsSpelt pointer = IsUtf8 pointer × IsPointer pointer
 
--- it is the pointer that the bytes spell, if they spell one
+-- it is the pointer in the bytes, if they are one
 abbrev pub IsPointerOf : List ℕ → List ℕ → Type 0
 IsPointerOf pointer read = IsSpelt pointer → read ≡ pointer
 
@@ -56,7 +56,7 @@ AreFoundBy settings text pointers all = AllZip (λ (pointer : List ℕ) (found :
 abbrev pub IsLedBy : Settings → List ℕ → List ℕ → LookUp → Type 0
 IsLedBy settings text pointer look_up = (tree : Tree) × IsDocumentBy settings 0 text tree × RefusesName settings.names text (rows tree) None × IsLed text tree pointer look_up
 
--- in any bytes: the same, or why there is no text, or first of all why there is no pointer
+-- in any bytes: the same, or why they are not valid JSON, or first of all why there is no pointer
 abbrev pub IsLookUp : Settings → List ℕ → List ℕ → LookUp → Type 0
 IsLookUp settings text pointer (Found kind span) = IsSpelt pointer × IsLedBy settings text pointer (Found kind span)
 IsLookUp settings text pointer (Lost fault) = IsSpelt pointer × IsLedBy settings text pointer (Lost fault)
@@ -83,6 +83,6 @@ shown_look_up (NoText refusal.Truncated) = told 11 0
 shown_look_up (NoText (refusal.TooDeep at)) = told 12 at
 shown_look_up (NoText (refusal.RepeatedName at)) = told 13 at
 
--- it shows what the pointer comes to
+-- it shows the answer to the pointer
 abbrev pub IsAnswerOf : Settings → List ℕ → List ℕ → JxAnswer → Type 0
 IsAnswerOf settings text pointer told_as = (look_up : LookUp) × (IsLookUp settings text pointer look_up × (told_as ≡ shown_look_up look_up))

@@ -1,4 +1,4 @@
--- What the calls on a saved index tell.
+-- The results of calls on a saved index.
 use Rattle.std.specs.Prelude.{◌≡◌, ◌≢◌, ◌⊎◌, ℕ, ◌/◌, ◌<◌, ◌≤◌, List, length, slice_range, Option, None, Some}
 use Rattle.std.specs.List.{AllZip}
 use Rattle.jx_summary.specs.declared.span.Span.{Span}
@@ -6,24 +6,24 @@ use Rattle.jx_run.specs.declared.texts.settings.NameRule.TheVariants.{Any}
 use Rattle.jx_run.specs.declared.texts.settings.Settings.{Settings}
 use Rattle.jx_run.specs.Laws.{span_of}
 use Rattle.jx_run.specs.Tree.{Tree}
-use Rattle.jx_saved.specs.declared.decoding.SavedFault.{SavedFault}
-use Rattle.jx_saved.specs.declared.decoding.SavedFault.TheVariants.{Memory, NotAnIndex, OtherVersion, CutShort, Damaged, Malformed, Longer}
-use Rattle.jx_saved.specs.declared.index.Index.{Index}
-use Rattle.jx_saved.specs.Index.{IsIndexOf}
-use Rattle.jx_saved.specs.Saved.{HasItsLevels, SaysOf}
-use Rattle.jx_saved.specs.Spelling.{front_flags}
-use Rattle.jx_saved_names.specs.declared.saved_text.SavedText.{SavedText}
-use Rattle.jx_saved_names.specs.Fed.{KeepsNames}
-use Rattle.jx_saved_names.specs.Saved.{IsSavableToo, SaysSameToo}
-use Rattle.jx_saved_names.specs.Spelling.{spelt_saved}
-use Rattle.jx_walk.specs.declared.walk.PausedWalk.{PausedWalk}
-use Rattle.jx_walk.specs.Chunks.{chunk_at}
-use Rattle.jx_walk.specs.Paused as walk
-use Rattle.jx_walk.specs.Walk.{IsToldApart}
-use Rattle.jx_split.specs.declared.cutting.Aim.{Aim}
-use Rattle.jx_split.specs.declared.part.ContainerPart.{ContainerPart}
-use Rattle.jx_split.specs.Parts.{IsIn, parts_of}
-use Rattle.jx_split.specs.Paused as split
+use Rattle.jx_file_index.specs.declared.index_decoding.SavedFault.{SavedFault}
+use Rattle.jx_file_index.specs.declared.index_decoding.SavedFault.TheVariants.{Memory, NotAnIndex, OtherVersion, CutShort, Damaged, Malformed, Longer}
+use Rattle.jx_file_index.specs.declared.index.Index.{Index}
+use Rattle.jx_file_index.specs.Index.{IsIndexOf}
+use Rattle.jx_file_index.specs.Saved.{HasItsLevels, SaysOf}
+use Rattle.jx_file_index.specs.Spelling.{front_flags}
+use Rattle.jx_file_index.specs.declared.saved_text.SavedText.{SavedText}
+use Rattle.jx_file_build.specs.FedNames.{KeepsNames}
+use Rattle.jx_file_index.specs.SavedTexts.{IsSavableToo, SaysSameToo}
+use Rattle.jx_file_index.specs.TextSpelling.{spelt_saved}
+use Rattle.jx_file_query.specs.declared.walk.PausedWalk.{PausedWalk}
+use Rattle.jx_file_query.specs.Chunks.{chunk_at}
+use Rattle.jx_file_query.specs.PausedWalks as walk
+use Rattle.jx_file_query.specs.Walk.{IsToldApart}
+use Rattle.jx_file_query.specs.declared.cutting.Aim.{Aim}
+use Rattle.jx_file_query.specs.declared.part.ContainerPart.{ContainerPart}
+use Rattle.jx_file_query.specs.Parts.{IsIn, parts_of}
+use Rattle.jx_file_query.specs.PausedSplits as split
 use Rattle.jx_c.specs.Buffers.{IsFilled}
 use Rattle.jx_c.specs.Indexes.{AreAnswersOf}
 use Rattle.jx_c.specs.LookUps.{IsPointerOf}
@@ -49,8 +49,8 @@ status_of Damaged = 23
 status_of Malformed = 24
 status_of Longer = 25
 
--- nothing goes on by an index that these bytes spell, of a text of this size, with tables of names or without; it says what any
--- index says that they spell, and the tables what any tables say
+-- nothing goes on by the index in these bytes, of a text of this size, with tables of names or without; any index that these bytes
+-- may be says the same, and so do its tables
 pub record IsOpened (bytes : List ℕ) (size : ℕ) (s : OpenedIndex) : Type 0 where
   pub spelt : spelt_saved s.saved ≡ bytes
   pub levels : HasItsLevels s.saved.index
@@ -141,7 +141,7 @@ abbrev pub AreOthers : SavedText → IndexWork → List ℕ → Type 0
 AreOthers saved work bytes = (settings : Settings) (chunk : ℕ) (text : List ℕ) (span : Span) → HasCome settings chunk text saved work → needed_in saved.index work ≡ Some span
     → bytes ≢ slice_range text span.start span.end
 
--- the index is of no text, or the bytes have the digest of others
+-- the index is not that of any text, or the bytes have the checksum of others
 abbrev pub IsOfNone : SavedText → IndexWork → List ℕ → Type 0
 IsOfNone saved work bytes = (settings : Settings) (chunk : ℕ) (text : List ℕ) → HasCome settings chunk text saved work → IsTold text saved.index work bytes → ⊥
 
@@ -167,7 +167,7 @@ IsASplit s = IsASplitBy s.work
 abbrev pub idle : OpenedIndex → OpenedIndex
 idle s = record { saved = s.saved; work = Nothing }
 
--- ---- what it comes to
+-- ---- results
 
 -- the same settings, whatever names objects have
 abbrev pub any_names : Settings → Settings
@@ -202,7 +202,7 @@ abbrev pub ArePartsIn : OpenedIndex → List JxPart → List JxPart → ℕ → 
 ArePartsIn s old new count = (settings : Settings) (chunk : ℕ) (text : List ℕ) (aim : Aim) (container : Tree) → HasSplit settings chunk text aim s.saved.index s.work → IsIn settings text container
     → span_of container ≡ aim.whole → (count ≡ length (parts_of aim.parts text container)) × IsFilled shown_part old new (parts_of aim.parts text container)
 
--- the index is of no text that has come so far
+-- the index is not that of any text that has come so far
 abbrev pub IsOfNoText : OpenedIndex → Type 0
 IsOfNoText s = (settings : Settings) (chunk : ℕ) (text : List ℕ) (pointers : List JxPointer) → HasSought settings chunk text pointers s.saved s.work → ⊥
 
@@ -217,7 +217,7 @@ HasNoSuchContainer s = (settings : Settings) (chunk : ℕ) (text : List ℕ) (ai
 abbrev pub chunk_with : Index → ℕ → Option Span
 chunk_with index at = chunk_at index (at / index.chunk)
 
--- bytes with the digest of this chunk are those of the text that was indexed, if they are told apart
+-- bytes with the checksum of this chunk are those of the text that was indexed, if other bytes have another one
 abbrev pub IsChunk : Index → Span → List ℕ → Type 0
 IsChunk index span bytes = (settings : Settings) (chunk : ℕ) (text : List ℕ) → IsIndexOf settings chunk text index → IsToldApart text span bytes → bytes ≡ slice_range text span.start span.end
 

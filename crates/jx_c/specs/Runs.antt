@@ -1,4 +1,4 @@
--- Runs of parts of a text as C sees them: records in buffers of the caller's.
+-- Partial results of a text as C sees them: run files in buffers of the caller's.
 use Rattle.std.specs.Prelude.{◌≡◌, ℕ, ◌<◌, ◌≤◌, ◌==◌, List, ◌++◌, length, drop, Option, None, Some, if◌then◌else◌}
 use Rattle.jx_portion.specs.Portion.{end_of, start_of, IsMismatch, IsRecord, IsSaidBy, Meets, PortionValue}
 use Rattle.jx_portion.specs.Reading.{IsSealed}
@@ -13,7 +13,7 @@ use Rattle.jx_c.specs.declared.shapes.verdict.JxVerdict.{JxVerdict}
 abbrev pub from_in : ℕ → Option ℕ
 from_in from = if from == 18446744073709551615 then None else Some from
 
--- the record of these bytes stands at the front of the buffer, and what stood behind that is as it was
+-- the run file of these bytes is at the front of the buffer, and the rest of the buffer is as it was
 pub record IsWritten (bytes : List ℕ) (from : Option ℕ) (depth : ℕ) (old new : List ℕ) (size : ℕ) : Type 0 where
   pub run : List ℕ
   pub is : IsRecord bytes from depth run
@@ -49,7 +49,7 @@ pub record AreNeighbours (left right : List ℕ) : Type 0 where
   pub says_second : IsSaidBy right second
   pub meet : Meets first second
 
--- when a join may want memory: to read what has the head and the digest of a run, the right behind the left, and to join what may be joined
+-- when a join may allocate: to read what has the head and the checksum of a run, the right after the left, and to join what may be joined
 pub data MayWant (left right : List ℕ) : Type 0 where
   for_left : IsSealed left → MayWant left right
   for_right : (first : PortionValue) → IsSaidBy left first → IsSealed right → MayWant left right

@@ -1,15 +1,15 @@
--- What the calls that make a saved index tell.
+-- The results of calls that make a saved index.
 use Rattle.std.specs.Prelude.{◌≡◌, ℕ, List, [], ◌++◌, length, Bool, Option, None, Some, Vec}
 use Rattle.std.specs.declared.alloc.Global.{Global}
 use Rattle.jx_run.specs.declared.texts.settings.Settings.{Settings}
 use Rattle.jx_run.specs.declared.texts.verdict.Verdict.{Verdict}
 use Rattle.jx_run.specs.declared.texts.verdict.Verdict.TheVariants.{Accepted, Refused}
 use Rattle.jx_run.specs.Settings.{JudgedBy}
-use Rattle.jx_saved.specs.Index.{IsIndexOf}
-use Rattle.jx_saved.specs.Indexer.{HasFed}
-use Rattle.jx_saved_names.specs.declared.saved_text.SavedText.{SavedText}
-use Rattle.jx_saved_names.specs.IfAsked.{AreFed, HasNames}
-use Rattle.jx_saved_names.specs.Spelling.{spelt_saved}
+use Rattle.jx_file_index.specs.Index.{IsIndexOf}
+use Rattle.jx_file_build.specs.Indexer.{HasFed}
+use Rattle.jx_file_index.specs.declared.saved_text.SavedText.{SavedText}
+use Rattle.jx_file_build.specs.NamesIfAsked.{AreFed, HasNames}
+use Rattle.jx_file_index.specs.TextSpelling.{spelt_saved}
 use Rattle.jx_c.specs.Verdict.{shown}
 use Rattle.jx_c.specs.declared.saving.fed_text.FedText.{FedText}
 use Rattle.jx_c.specs.declared.saving.saver.Saver.{Saver}
@@ -30,7 +30,7 @@ HasRead has_names settings chunk bytes (Saved index) = ⊥
 abbrev pub IsBegun : Bool → Settings → ℕ → Option Saver → Type 0
 IsBegun has_names settings chunk held = (s : Saver) × (held ≡ Some s) × HasRead has_names settings chunk [] s
 
--- whatever it was fed, now it was fed these bytes behind it
+-- whatever it was fed, now it was fed these bytes after it
 abbrev pub IsFed : Saver → List ℕ → Option Saver → Type 0
 IsFed old bytes held = (s : Saver) × (held ≡ Some s)
     × ((has_names : Bool) (settings : Settings) (chunk : ℕ) (text : List ℕ) → HasRead has_names settings chunk text old → HasRead has_names settings chunk (text ++ bytes) s)
@@ -40,7 +40,7 @@ pub record IsSavedOf (has_names : Bool) (settings : Settings) (chunk : ℕ) (tex
   pub index : IsIndexOf settings chunk text saved.index
   pub names : HasNames has_names settings chunk text saved.names
 
--- these are the bytes of the text's index, and of the tables behind it
+-- these are the bytes of the text's index, and of the tables after it
 abbrev pub AreBytesOf : Bool → Settings → ℕ → List ℕ → List ℕ → Type 0
 AreBytesOf has_names settings chunk text bytes = (saved : SavedText) × IsSavedOf has_names settings chunk text saved × (bytes ≡ spelt_saved saved)
 

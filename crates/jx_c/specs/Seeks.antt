@@ -1,4 +1,4 @@
--- What the calls on a look-up that is fed tell.
+-- The results of calls on a look-up that is fed.
 use Rattle.std.specs.Prelude.{◌≡◌, ℕ, List, [], ◌++◌, Option, Some}
 use Rattle.std.specs.List.{AllZip}
 use Rattle.jx_run.specs.declared.texts.settings.Settings.{Settings}
@@ -30,7 +30,7 @@ end_of s = finder.end_of s.finder
 abbrev pub IsBegun : Settings → List JxPointer → Option SeekingValue → Type 0
 IsBegun settings pointers held = (s : SeekingValue) × (held ≡ Some s) × HasSought settings pointers [] s
 
--- whatever text it was fed, now it was fed these bytes behind it
+-- whatever text it was fed, now it was fed these bytes after it
 abbrev pub IsFed : SeekingValue → List ℕ → Option SeekingValue → Type 0
 IsFed old bytes held = (s : SeekingValue) × (held ≡ Some s)
     × ((settings : Settings) (pointers : List JxPointer) (text : List ℕ) → HasSought settings pointers text old → HasSought settings pointers (text ++ bytes) s)

@@ -1,4 +1,4 @@
--- What the calls on a stream of values tell.
+-- The results of calls on a stream of values.
 use Rattle.std.specs.Prelude.{◌≡◌, ℕ, ◌+◌, List, [], ◌∷◌, ◌++◌, length, Bool, true, false, Option, None, Some, Result, Ok, Err}
 use Rattle.jx_lex.specs.declared.kind.Kind.{Kind}
 use Rattle.jx_lex.specs.declared.kind.Kind.TheVariants.{Object, Array, String, Number, True, False, Null}
@@ -50,7 +50,7 @@ end_of s = s.each.reader.start + s.each.reader.count
 abbrev pub IsBegun : Settings → List ℕ → Option StreamValue → Type 0
 IsBegun settings pointer held = (s : StreamValue) × (held ≡ Some s) × HasStreamed settings pointer [] [] s
 
--- whatever it was fed, now it was fed these bytes behind it
+-- whatever it was fed, now it was fed these bytes after it
 abbrev pub IsFed : StreamValue → List ℕ → Option StreamValue → Type 0
 IsFed old bytes held =
     (s : StreamValue) × (held ≡ Some s) × ((settings : Settings) (pointer input given : List ℕ) → HasStreamed settings pointer input given old → HasStreamed settings pointer (input ++ bytes) given s)
@@ -68,7 +68,7 @@ pub record IsTaken (old : StreamValue) (before after : List ℕ) (size : ℕ) (h
   pub none_wait : s.each.ready ≡ []
   pub gives : (settings : Settings) (pointer input given : List ℕ) → HasStreamed settings pointer input given old → HasStreamed settings pointer input (given ++ old.each.ready) s
 
--- ---- what the pointer comes to
+-- ---- where the pointer leads
 
 -- an answer without the value
 abbrev pub outcome_of : JxAnswer → JxOutcome

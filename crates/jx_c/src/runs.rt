@@ -1,4 +1,4 @@
-// Runs of parts of a text: records in buffers of the caller's.
+// Partial results of a text: run files in buffers of the caller's.
 ghost use Rattle.std.specs.Prelude.{◌≡◌, ◌⊎◌, ◌+◌, ◌<◌, ◌≤◌, ◌^◌, ◌++◌, ◌↔◌, ℕ, List, Option, length, drop, unwrap_or, IfErr, IfOk, IsTrue, MatchResult};
 ghost use Rattle.jx_portion.specs.Portion.{end_of, start_of, IsPortion, IsRecord, IsSaidBy, PortionValue};
 ghost use Rattle.jx_portion.specs.Reading.{IsSealed};
@@ -15,7 +15,7 @@ use std::alloc::{AllocError, Global};
 /// In place of an offset: nobody told where the part stands.
 const NO_FROM: u64 = 18446744073709551615;
 
-/// Where a part stands in the text, if that was told.
+/// The offset of a part in the text, if it was given.
 fn from_in(from: u64) -> Option<usize>
     ensures { result ≡ from_in from }
 {
@@ -26,7 +26,7 @@ fn from_in(from: u64) -> Option<usize>
     }
 }
 
-/// Puts bytes into the buffer, if that has room for them, and tells their size.
+/// Puts bytes into the buffer, if that has room for them, and their number into `size`.
 pub(crate) fn put(bytes: &[u8], run: &mut [u8], size: &mut usize) -> u32
     ensures size { size.new ≡ length bytes.now }
     ensures put { result ≡ OK → (length bytes.now ≤ length run.old) × (run.new ≡ bytes.now ++ drop (length bytes.now) run.old) }
@@ -42,7 +42,7 @@ pub(crate) fn put(bytes: &[u8], run: &mut [u8], size: &mut usize) -> u32
     OK
 }
 
-/// The record of a part.
+/// Makes the run file of a part.
 fn record_of(
     alloc: Global,
     part: &[u8],
@@ -134,8 +134,8 @@ fn joined(alloc: Global, left: &[u8], right: &[u8]) -> Result<Vec<u8>, u32>
     }
 }
 
-/// Puts the record of the bytes of both runs into the buffer: those of the right, which has to begin where the left ends,
-/// stand behind those of the left.
+/// Puts the run file of the bytes of both runs into the buffer: those of the right, which has to begin where the left ends,
+/// follow those of the left.
 #[unsafe(no_mangle)]
 pub extern "C" fn jx_run_join(
     alloc: Global,

@@ -95,7 +95,7 @@ impl Cutting {
         })
     }
 
-    /// The same division once more. It takes memory where the chunks were given by their cuts, and none where they were
+    /// A copy of the division. It takes memory where the chunks were given by their cuts, and none where they were
     /// given by a size.
     pub fn copy(&self, alloc: Global) -> Result<Cutting, AllocError>
         ensures { IfOk result (λ c. c ≡ self.now) }
@@ -108,7 +108,7 @@ impl Cutting {
         })
     }
 
-    /// The same chunks without the first `front` bytes of the text: those that end there or before it are left out, and
+    /// The division without the first `front` bytes of the text: chunks that end there or before it are left out, and
     /// one that goes on after it begins there. It takes no memory.
     pub fn without_front(self, front: usize) -> Cutting
         requires from { self.front ≤ front }

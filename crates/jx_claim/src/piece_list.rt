@@ -38,7 +38,7 @@ impl PieceList {
         }
     }
 
-    /// The same chunks once more.
+    /// A copy of the chunks.
     pub fn copy(&self, alloc: Global) -> Result<PieceList, AllocError>
         ensures same { IfOk result (λ copy. (len : ℕ) → listed len copy ≡ listed len self.now) }
         ensures regular { IfOk result (λ copy. (len : ℕ) → IsRegular len self.now → IsRegular len copy) }

@@ -35,7 +35,7 @@ AreInputsOf [] inputs = IsOne (λ input. input ≡ Standard) inputs
 AreInputsOf (word ∷ []) inputs = IsOne (IsInputOf word) inputs
 AreInputsOf (word ∷ next ∷ more) inputs = AreSeveral (word ∷ next ∷ more) inputs
 
--- the same where each is told by its name: one alone too, and standard input by the word for it
+-- the inputs where each has its name: one alone too, and standard input by the argument for it
 abbrev pub AreNamedInputsOf : List (List ℕ) → Inputs → Type 0
 AreNamedInputsOf [] inputs = AreSeveral (dash ∷ []) inputs
 AreNamedInputsOf (word ∷ more) inputs = AreSeveral (word ∷ more) inputs

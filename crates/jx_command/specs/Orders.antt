@@ -3,7 +3,7 @@ use Rattle.std.specs.Prelude.{◌≤◌, ⊤}
 use Rattle.jx_command.specs.declared.order.Order.{Order}
 use Rattle.jx_command.specs.declared.order.Order.TheVariants.{Report, Parts, Values, Each, Lines, Live, Save, Split}
 
--- the pieces that are read have at least a byte each, and a container has 1 to 65,536 parts
+-- the chunks that are read have at least a byte each, and a container has 1 to 65,536 parts
 abbrev pub HasPieces : Order → Type 0
 HasPieces (Report request) = 1 ≤ request.command.piece
 HasPieces (Parts order) = ⊤

@@ -9,10 +9,13 @@ pub enum ArgFault {
     /// More than one of the words for what is read is `-`.
     #[error("error: the word '-' stands for standard input, which is read once")]
     StandardTwice,
+    /// There is no such number of workers.
+    #[error("error: invalid value '{0}' for '--workers <N>': N is auto, or 1 to 64")]
+    Workers(String),
     /// No chunk has so many bytes.
     #[error("error: invalid value for '--chunk <N>': N is no power of two")]
     Chunk,
-    /// A growth of memory was refused.
+    /// An allocation failed.
     #[error("jx: out of memory")]
     Memory,
 }

@@ -23,7 +23,7 @@ pub(crate) struct ArgRow {
     pub(crate) unless: &'static [&'static str],
 }
 
-/// What stands behind an option, or as a word without one. The text is what the help calls it.
+/// The value that follows an option, or an argument without one. The text is its name in the help.
 #[derive(Clone, Copy)]
 pub(crate) enum Takes {
     /// Nothing: it is given or not.

@@ -1,4 +1,4 @@
-// The words of the command line.
+// Reads the arguments.
 ghost use Rattle.std.specs.Prelude.{◌≤◌, IfOk, IfSome};
 ghost use Rattle.jx_command.specs.Orders.{HasPieces};
 
@@ -17,6 +17,7 @@ use crate::request::{Color, Request, TellAccepted, Told};
 use crate::save_arguments::save_order_from;
 use crate::split_arguments::split_order_from;
 use crate::values_arguments::values_order_from;
+use crate::worker_count::workers_of;
 use clap::ArgMatches;
 use clap::error::ErrorKind;
 use jx_crew::Workers;
@@ -24,7 +25,7 @@ use jx_run::{FrontMark, NameRule, Settings};
 use jx_task::{Command, Task};
 use std::alloc::{AllocError, Global};
 
-/// What an error of clap's comes to: a refusal of memory is told apart, and any other is kept.
+/// The fault of an error of clap's: a failed allocation has its own, and any other is kept.
 fn refused(error: clap::Error) -> ArgFault {
     match error.kind() {
         ErrorKind::OutOfMemory => ArgFault::Memory,
@@ -83,12 +84,7 @@ pub(crate) fn settings_of(options: &ArgMatches<'_>) -> Settings {
     }
 }
 
-/// How many workers the options ask for, if they tell.
-pub(crate) fn workers_of(options: &ArgMatches<'_>) -> Option<Workers> {
-    Workers::new(options.get_one::<u8>("workers")?)
-}
-
-/// How many bytes a piece has by the options, if they tell and it is not 0.
+/// How many bytes a chunk has by the options, if they say and it is not 0.
 pub(crate) fn piece_of(options: &ArgMatches<'_>) -> Option<usize>
     ensures { IfSome result (λ piece. 1 ≤ piece) }
 {
@@ -113,14 +109,13 @@ pub(crate) fn pointers_of(
 
 /// The command of these options. The grammar has a number for each option that the words leave out, so that what stands here
 /// where there is none is never met.
-fn command_from(task: Task, options: &ArgMatches<'_>) -> Command
+fn command_from(task: Task, workers: Workers, options: &ArgMatches<'_>) -> Command
     ensures { 1 ≤ result.piece }
 {
-    let one_worker = Workers::new(1).unwrap();
     Command {
         task,
         settings: settings_of(options),
-        workers: workers_of(options).unwrap_or(one_worker),
+        workers,
         piece: piece_of(options).unwrap_or(1),
         quiet: options.get_flag("quiet") || options.get_flag("list"),
     }
@@ -139,7 +134,7 @@ fn word_of_file<'a>(file: &'a str) -> &'a str {
     if file == "-" { "./-" } else { file }
 }
 
-/// What is read, each behind its name: the file of an option, or what words name.
+/// What is read, each after its name: the file of an option, or what words name.
 fn inputs_behind_names<'a>(
     options: &ArgMatches<'a>,
     mut words: Vec<&'a str>,
@@ -170,7 +165,7 @@ pub(crate) fn inputs_named<'a>(
     }
 }
 
-/// Whether what is told to people has colors by the options.
+/// Whether messages to people have colors by the options.
 fn color_of(options: &ArgMatches<'_>) -> Color {
     match options.get_str("color") {
         Some("always") => Color::Always,
@@ -179,7 +174,7 @@ fn color_of(options: &ArgMatches<'_>) -> Color {
     }
 }
 
-/// Whether people are told by the options that a text is accepted.
+/// Whether an accepted text is reported by the options.
 fn accepted_of(options: &ArgMatches<'_>) -> TellAccepted {
     if options.get_flag("verbose") {
         TellAccepted::Always
@@ -190,7 +185,7 @@ fn accepted_of(options: &ArgMatches<'_>) -> TellAccepted {
     }
 }
 
-/// How the verdict of a check, or what is wrong with lines, is told by the options.
+/// The format of the verdict of a check, or of what is wrong with lines, by the options.
 pub(crate) fn format_of(options: &ArgMatches<'_>) -> Told {
     if options.get_flag("list") {
         return Told::Refused;
@@ -212,12 +207,13 @@ fn report_order<'a>(
     alloc: Global,
     task: Task,
     told: Told,
+    workers: Workers,
     options: &ArgMatches<'a>,
 ) -> Result<Order<'a>, ArgFault>
     ensures { IfOk result HasPieces }
 {
     Ok(Order::Report(Request {
-        command: command_from(task, options),
+        command: command_from(task, workers, options),
         inputs: inputs_named(options, words_of(alloc, options))?,
         pointers: options.get_str("pointers_file"),
         index: options.get_str("index"),
@@ -227,30 +223,42 @@ fn report_order<'a>(
 }
 
 /// The look-up that these options ask for.
-fn look_up_order<'a>(alloc: Global, options: &ArgMatches<'a>) -> Result<Order<'a>, ArgFault>
+fn look_up_order<'a>(
+    alloc: Global,
+    workers: Workers,
+    options: &ArgMatches<'a>,
+) -> Result<Order<'a>, ArgFault>
     ensures { IfOk result HasPieces }
 {
     match pointers_of(alloc, options) {
-        Ok(pointers) => report_order(alloc, Task::At(pointers), Told::Lines, options),
+        Ok(pointers) => report_order(alloc, Task::At(pointers), Told::Lines, workers, options),
         Err(_) => Err(ArgFault::Memory),
     }
 }
 
 /// What is asked of a sequence by these options.
-fn sequence_order<'a>(alloc: Global, options: &ArgMatches<'a>) -> Result<Order<'a>, ArgFault>
+fn sequence_order<'a>(
+    alloc: Global,
+    workers: Workers,
+    options: &ArgMatches<'a>,
+) -> Result<Order<'a>, ArgFault>
     ensures { IfOk result HasPieces }
 {
     if is_live(options) {
         return Ok(Order::Live(live_order_from(alloc, options)?));
     }
-    report_order(alloc, Task::Seq, Told::Lines, options)
+    report_order(alloc, Task::Seq, Told::Lines, workers, options)
 }
 
 /// The values that these options ask for.
-fn values_order<'a>(alloc: Global, options: &ArgMatches<'a>) -> Result<Order<'a>, ArgFault>
+fn values_order<'a>(
+    alloc: Global,
+    workers: Workers,
+    options: &ArgMatches<'a>,
+) -> Result<Order<'a>, ArgFault>
     ensures { IfOk result HasPieces }
 {
-    match values_order_from(alloc, options) {
+    match values_order_from(alloc, workers, options) {
         Ok(order) => Ok(Order::Values(order)),
         Err(_) => Err(ArgFault::Memory),
     }
@@ -260,19 +268,22 @@ fn values_order<'a>(alloc: Global, options: &ArgMatches<'a>) -> Result<Order<'a>
 fn order_from<'a>(
     alloc: Global,
     called: Called,
+    workers: Workers,
     options: &ArgMatches<'a>,
 ) -> Result<Order<'a>, ArgFault>
     ensures { IfOk result HasPieces }
 {
     match called {
-        Called::Check => report_order(alloc, Task::Check, format_of(options), options),
-        Called::Explain => report_order(alloc, Task::Check, explained_by(options), options),
-        Called::Index => report_order(alloc, Task::Index, Told::Lines, options),
-        Called::At => look_up_order(alloc, options),
-        Called::Seq => sequence_order(alloc, options),
-        Called::Get => values_order(alloc, options),
-        Called::Each => Ok(Order::Each(each_order_from(options))),
-        Called::Lines => Ok(Order::Lines(lines_order_from(alloc, options)?)),
+        Called::Check => { report_order(alloc, Task::Check, format_of(options), workers, options) },
+        Called::Explain => {
+            report_order(alloc, Task::Check, explained_by(options), workers, options)
+        },
+        Called::Index => report_order(alloc, Task::Index, Told::Lines, workers, options),
+        Called::At => look_up_order(alloc, workers, options),
+        Called::Seq => sequence_order(alloc, workers, options),
+        Called::Get => values_order(alloc, workers, options),
+        Called::Each => Ok(Order::Each(each_order_from(workers, options))),
+        Called::Lines => Ok(Order::Lines(lines_order_from(alloc, workers, options)?)),
         Called::Save => Ok(Order::Save(save_order_from(options)?)),
         Called::Split => Ok(Order::Split(split_order_from(options))),
         Called::Part => Ok(Order::Parts(part_order_from(options))),
@@ -283,8 +294,14 @@ fn order_from<'a>(
 
 /// What the words ask for, the first of which is the program's name. Each FILE and each POINTER are taken as they stand:
 /// they are not cut, trimmed or read. Where the words are no command, or ask for help or the version, `Err` has what is
-/// to be told. The grammar has no words without a command, so that what stands here for them is never met.
-pub fn command_of<'a>(alloc: Global, words: &'a [&'a str]) -> Result<Order<'a>, ArgFault>
+/// of the message. The grammar has no arguments without a command, so that what is here for them is never met.
+///
+/// `--workers auto` is as many workers as there are processors, at least 1 and at most 16.
+pub fn command_of<'a>(
+    alloc: Global,
+    words: &'a [&'a str],
+    processors: usize,
+) -> Result<Order<'a>, ArgFault>
     ensures { IfOk result HasPieces }
 {
     let grammar = grammar(alloc).map_err(|_| ArgFault::Memory)?;
@@ -293,5 +310,6 @@ pub fn command_of<'a>(alloc: Global, words: &'a [&'a str]) -> Result<Order<'a>, 
         .map_err(|error| fault_of(alloc, words, error))?;
     let (name, options) = matches.subcommand().unwrap_or(("check", &matches));
     let called = called_by(name).unwrap_or(Called::Check);
-    order_from(alloc, called, options)
+    let workers = workers_of(alloc, options, processors)?;
+    order_from(alloc, called, workers, options)
 }

@@ -10,7 +10,7 @@ pub(crate) struct CommandRow {
     pub(crate) name: &'static str,
     /// What it does, in a line.
     pub(crate) about: &'static str,
-    /// What stands behind its options in the long help.
+    /// The text after its options in the long help.
     pub(crate) after: &'static str,
     pub(crate) args: &'static [ArgRow],
 }

@@ -1,7 +1,7 @@
 // The words of the subcommand that writes elements.
 ghost use Rattle.std.specs.Prelude.{◌≤◌};
 
-use crate::arguments::{mark_of, piece_of, workers_of};
+use crate::arguments::{mark_of, piece_of};
 use crate::options::{depth_of, input_of_word, progress_of};
 use crate::order::EachOrder;
 use clap::ArgMatches;
@@ -10,10 +10,9 @@ use jx_run::{NameRule, Settings};
 
 /// What its options ask for. The grammar has a number for each option that the words leave out, so that what stands here
 /// where there is none is never met.
-pub(crate) fn each_order_from<'a>(options: &ArgMatches<'a>) -> EachOrder<'a>
+pub(crate) fn each_order_from<'a>(workers: Workers, options: &ArgMatches<'a>) -> EachOrder<'a>
     ensures { 1 ≤ result.piece }
 {
-    let one_worker = Workers::new(1).unwrap();
     EachOrder {
         pointer: options.get_str("pointer").unwrap_or(""),
         has_names: options.get_flag("names"),
@@ -23,7 +22,7 @@ pub(crate) fn each_order_from<'a>(options: &ArgMatches<'a>) -> EachOrder<'a>
             mark: mark_of(options),
             names: NameRule::Any,
         },
-        workers: workers_of(options).unwrap_or(one_worker),
+        workers,
         piece: piece_of(options).unwrap_or(1),
         progress: progress_of(options),
     }

@@ -1,4 +1,4 @@
-// The commands and options by which the words of the command line are read, made from rows of data.
+// The commands and options by which arguments are read, made from rows of data.
 use crate::arg_row::{ArgRow, Takes};
 use crate::command_rows::{ALL, CommandRow, row_of};
 use crate::help;
@@ -19,7 +19,7 @@ fn taking<'a>(arg: Arg<'a>, takes: Takes) -> Arg<'a> {
     }
 }
 
-/// An argument that is spelt as its row says.
+/// An argument as its row has it.
 fn spelt<'a>(arg: Arg<'a>, row: &ArgRow) -> Arg<'a> {
     let arg = match row.short {
         Some(short) => arg.short(short),

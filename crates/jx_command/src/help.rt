@@ -7,7 +7,7 @@ pub const ABOUT: &str = "Validates and indexes JSON texts (RFC 8259) and text se
 pub const LONG_ABOUT: &str =
     "Validates and indexes JSON texts (RFC 8259) and text sequences (RFC 7464).
 
-Tells whether the input is a JSON text and at which byte it stops being one,
+Reports whether the input is a JSON text and at which byte it stops being one,
 where each value stands, and where JSON Pointers (RFC 6901) lead. Offsets
 count the bytes of the whole input from 0; a span S..E leaves E out.";
 
@@ -17,25 +17,25 @@ pub const AFTER: &str =
 pub const LONG_AFTER: &str = "Examples:
   jx check *.json                     which of these files are JSON texts?
   jx check -q < dump.json || echo no  the same, by the exit status alone
-  jx explain dump.json                why is this file none?
+  jx explain dump.json                where does this file stop being one?
   jx index dump.json                  a line for each value, with its span
   jx at /users/0/name < dump.json     where this value stands
   jx get /users/0/name < dump.json    its bytes
   jx each /items dump.json            a line for each element of this array
   jx seq log.json-seq                 which elements of a sequence are texts?
-  jx lines log.jsonl                  which lines are none?
+  jx lines log.jsonl                  which lines are not JSON texts?
   jx save dump.json > dump.json.jxi   an index of this file, kept beside it
-  jx part --from 0 < part-00 > 00.run what this part of a text comes to
+  jx part --from 0 < part-00 > 00.run the run of this part of a text
   cat ??.run | jx whole --to 81920    are all parts together a JSON text?
 
 Exit status:
   0  the text, every element or line is accepted, every pointer is found
-  1  otherwise: standard output tells what was refused, and where; of get,
+  1  otherwise: standard output says what was refused, and where; of get,
      each, save and split standard error does
-  2  no answer: standard error tells why; a call for help ends so too
+  2  no answer: standard error says why; a call for help ends so too
 Of several files, the greatest status of one.";
 
-pub const CHECK: &str = "Tell whether the input is a JSON text";
+pub const CHECK: &str = "Check whether the input is a JSON text";
 
 pub const EXPLAIN: &str = "Show where a text stops being one, and why";
 
@@ -47,9 +47,9 @@ pub const GET: &str = "Write the values that JSON Pointers lead to, byte for byt
 
 pub const EACH: &str = "Write each element of a container on a line of its own";
 
-pub const SEQ: &str = "Tell which elements of a JSON text sequence are JSON texts";
+pub const SEQ: &str = "Report which elements of a JSON text sequence are JSON texts";
 
-pub const LINES: &str = "Tell which lines of JSON Lines are no JSON texts";
+pub const LINES: &str = "Report which lines of JSON Lines are not JSON texts";
 
 pub const SAVE: &str = "Write the index of a JSON text, to keep beside it";
 
@@ -59,14 +59,14 @@ pub const PART: &str = "Write the run of a part of a JSON text";
 
 pub const JOIN: &str = "Write the joined run of neighboring parts, from their runs";
 
-pub const WHOLE: &str = "Tell from the runs of its parts whether a text is a JSON text";
+pub const WHOLE: &str = "Check by the runs of its parts whether a text is a JSON text";
 
 pub const FILES: &str = "Read each FILE in order; - is standard input";
 
 pub const LONG_FILES: &str = "Read each FILE in order; - is standard input, which is read too where
-no FILE is named. With two or more, the output is that of each behind
-its name, as 'FILE: accepted'. What goes wrong with a FILE is told on
-standard error, and the others are read.";
+no FILE is named. With two or more, the output for each follows its
+name, as 'FILE: accepted'. A fault of a FILE is reported on standard
+error, and the others are read.";
 
 pub const WITH_FILENAME: &str = "Write the name of its FILE before each line";
 
@@ -75,16 +75,15 @@ pub const LONG_WITH_FILENAME: &str =
 there is one FILE; - is standard input. With --format gnu or json a
 line has the name without this option.";
 
-pub const VERBOSE: &str = "Tell of one FILE too that it is accepted";
+pub const VERBOSE: &str = "Report one accepted FILE too";
 
-pub const LONG_VERBOSE: &str =
-    "Tell of one FILE too that it is accepted, as 'FILE: accepted'. Of two
-or more it is told without this option.";
+pub const LONG_VERBOSE: &str = "Report one accepted FILE too, as 'FILE: accepted'. Of two or more
+each accepted one is reported without this option.";
 
-pub const REFUSED: &str = "Tell of the refused files alone";
+pub const REFUSED: &str = "Report refused files alone";
 
-pub const LONG_REFUSED: &str = "Tell of the refused files alone, and nothing of those that are
-accepted.";
+pub const LONG_REFUSED: &str =
+    "Report refused files alone, and nothing on those that are accepted.";
 
 pub const ONE_FILE: &str = "Read FILE; - is standard input";
 
@@ -98,8 +97,8 @@ NO_COLOR is set nor TERM is dumb, always or never.";
 
 pub const FILE: &str = "Read FILE in place of standard input";
 
-pub const LONG_FILE: &str = "Read FILE in place of standard input. The word behind --file is taken
-as it stands, also where it begins with a hyphen.";
+pub const LONG_FILE: &str = "Read FILE in place of standard input. The argument after --file is
+taken as it is, also where it begins with a hyphen.";
 
 pub const DEPTH: &str = "Let N containers be open, 0 to 65535";
 
@@ -114,8 +113,8 @@ pub const PART_FROM: &str = "The part begins at the offset N of the text";
 
 pub const LONG_PART_FROM: &str = "The part begins at the offset N of the text, at most
 9223372036854775807. With this option in every part, a missing,
-doubled or misplaced part is told; without it in any, the order of
-the runs is taken on trust.";
+doubled or misplaced part is reported; without it in any, the order
+of the runs is taken on trust.";
 
 pub const WHOLE_FROM: &str = "The text begins at the offset N";
 
@@ -128,72 +127,77 @@ pub const WHOLE_TO: &str = "The text ends at the offset N";
 pub const LONG_WHOLE_TO: &str = "The text ends at the offset N, which is its size in bytes where it
 begins at 0. The runs have to cover all of it.";
 
-pub const WORKERS: &str = "Share the work among N workers, 1 to 64";
+pub const WORKERS: &str = "Use N workers, auto or 1 to 64";
 
-pub const CHECK_WORKERS: &str = "Share the work among N workers, 1 to 64. The answer is the same for
-every number. Of one FILE each worker reads pieces of 256 KiB for
+pub const CHECK_WORKERS: &str = "Share the work among N workers, 1 to 64, or auto: one for each
+processor that jx may use, at most 16. The answer is the same for
+every number. Of one FILE each worker reads chunks of 256 KiB for
 itself, and one alone the first MiB. Standard input and pipes they
 share from 5.25 MiB on. One worker reads a text with --unique-names.";
 
-pub const EXPLAIN_WORKERS: &str =
-    "Share the work among N workers, 1 to 64. The answer is the same for
+pub const EXPLAIN_WORKERS: &str = "Share the work among N workers, 1 to 64, or auto: one for each
+processor that jx may use, at most 16. The answer is the same for
 every number. They share a text from a MiB on. One worker reads a
 text with --unique-names.";
 
-pub const INDEX_WORKERS: &str = "Let there be N workers, 1 to 64. The answer is the same for every
-number: one of them reads the text and makes its index.";
+pub const INDEX_WORKERS: &str =
+    "Let there be N workers, 1 to 64, or auto: one for each processor that
+jx may use, at most 16. The answer is the same for every number: one
+of them reads the text and makes its index.";
 
-pub const AT_WORKERS: &str = "Share the work among N workers, 1 to 64. The answer is the same for
+pub const AT_WORKERS: &str = "Share the work among N workers, 1 to 64, or auto: one for each
+processor that jx may use, at most 16. The answer is the same for
 every number. They look up many pointers: 10000, and one for each 128
 bytes of text. One worker reads the text, looks up fewer pointers,
 and looks up by --index.";
 
-pub const GET_WORKERS: &str = "Share the work among N workers, 1 to 64. The answer is the same for
+pub const GET_WORKERS: &str = "Share the work among N workers, 1 to 64, or auto: one for each
+processor that jx may use, at most 16. The answer is the same for
 every number. They look up many pointers: 10000, and one for each 128
 bytes of text. One worker reads the text, looks up fewer pointers,
 looks up by --index, and answers with --lines.";
 
-pub const SEQ_WORKERS: &str = "Share the work among N workers, 1 to 64. The answer is the same for
-every number. Of one FILE each worker reads pieces of 256 KiB for
+pub const SEQ_WORKERS: &str = "Share the work among N workers, 1 to 64, or auto: one for each
+processor that jx may use, at most 16. The answer is the same for
+every number. Of one FILE each worker reads chunks of 256 KiB for
 itself, from a MiB on. Standard input and pipes, and any input with
 --ignore-bom or --unique-names, they share from 5.25 MiB on. One
 worker reads with --live.";
 
-pub const READ_WORKERS: &str = "Share the work among N workers, 1 to 64. The answer is the same for
+pub const READ_WORKERS: &str = "Share the work among N workers, 1 to 64, or auto: one for each
+processor that jx may use, at most 16. The answer is the same for
 every number. They share what one read gives, from a MiB on.";
 
-pub const PIECE: &str = "Let a worker draw N bytes at a time";
+pub const PIECE: &str = "Let a worker take N bytes at a time";
 
-pub const CHECK_PIECE: &str = "Let a worker draw N bytes at a time, 1 to 1073741824, of standard
+pub const CHECK_PIECE: &str = "Let a worker take N bytes at a time, 1 to 1073741824, of standard
 input or a pipe. The answer is the same for every number, and more
-than 4294967295 pieces of N bytes are too many.";
+than 4294967295 chunks of N bytes are too many.";
 
-pub const EXPLAIN_PIECE: &str = "Let a worker draw N bytes at a time, 1 to 1073741824. The answer is
-the same for every number, and more than 4294967295 pieces of N bytes
+pub const EXPLAIN_PIECE: &str = "Let a worker take N bytes at a time, 1 to 1073741824. The answer is
+the same for every number, and more than 4294967295 chunks of N bytes
 are too many.";
 
-pub const BOUNDING_PIECE: &str =
-    "Let the input have 4294967295 pieces of N bytes, 1 to 1073741824, and
-no more: these are too many. One worker reads, and N bounds the input
-alone.";
+pub const BOUNDING_PIECE: &str = "Let the input have at most 4294967295 chunks of N bytes, 1 to
+1073741824. One worker reads, and N bounds the input alone.";
 
-pub const SEQ_PIECE: &str = "Let a worker draw whole elements of some N bytes at a time, 1 to
+pub const SEQ_PIECE: &str = "Let a worker take whole elements of some N bytes at a time, 1 to
 1073741824. The answer is the same for every number, and more than
-4294967295 pieces of N bytes are too many.";
+4294967295 chunks of N bytes are too many.";
 
-pub const EACH_PIECE: &str = "Let a worker draw N bytes at a time, 1 to 1073741824. The answer is
+pub const EACH_PIECE: &str = "Let a worker take N bytes at a time, 1 to 1073741824. The answer is
 the same for every number.";
 
-pub const LINES_PIECE: &str = "Let a worker draw whole lines of some N bytes at a time, 1 to
+pub const LINES_PIECE: &str = "Let a worker take whole lines of some N bytes at a time, 1 to
 1073741824. The answer is the same for every number.";
 
 pub const IGNORE_BOM: &str = "Ignore a byte order mark in front";
 
 pub const LONG_IGNORE_BOM: &str =
     "Ignore a byte order mark (EF BB BF) in front of a text, before all
-blanks, in front of all lines, or before the first record separator
-of a sequence. Without this option it is refused. Offsets count its
-bytes.";
+white space, in front of all lines, or before the first record
+separator of a sequence. Without this option it is refused. Offsets
+count its bytes.";
 
 pub const UNIQUE_NAMES: &str = "Refuse objects that repeat a name";
 
@@ -203,38 +207,38 @@ are equal where their values are: escapes stand for the characters
 they name. Without this option such a text is accepted (RFC 8259,
 section 4).";
 
-pub const SKIP_BLANK: &str = "Pass blank lines";
+pub const SKIP_BLANK: &str = "Skip empty lines";
 
-pub const LONG_SKIP_BLANK: &str = "Pass lines that have no byte, or blanks alone. They are numbered;
-lines does not count them, and get writes a line without values and
-tells nothing. Without this option each is refused.";
+pub const LONG_SKIP_BLANK: &str = "Skip lines that have no byte, or white space alone. They are
+numbered; lines does not count them, and get writes a line without
+values and reports nothing. Without this option each is refused.";
 
-pub const PROGRESS: &str = "Tell progress: auto, always or never";
+pub const PROGRESS: &str = "Show progress: auto, always or never";
 
 pub const LONG_PROGRESS: &str =
-    "Tell on standard error how far the input is read, ten times a second
+    "Show on standard error how far the input is read, ten times a second
 at most: megabytes, the share of FILE's size, and megabytes a second.
-Each line stands over the last one: auto, which is where standard
+Each line overwrites the last one: auto, which is where standard
 error is a terminal, always or never, which is the default. The
-output is the same. With --format gnu or json nothing is told.";
+output is the same. With --format gnu or json nothing is shown.";
 
-pub const CHUNK: &str = "Tell of each N bytes of the text";
+pub const CHUNK: &str = "Keep an entry for each N bytes";
 
-pub const LONG_CHUNK: &str = "Tell of each N bytes of the text, a power of two from 64 to 1048576.
-The index has 64 bytes, 24 for each chunk, and some 24 for each 64
-chunks.";
+pub const LONG_CHUNK: &str = "Keep an entry for each N bytes of the text, a power of two from 64 to
+1048576. The index has 64 bytes, 24 for each chunk, and some 24 for
+each 64 chunks.";
 
-pub const LIVE: &str = "Tell each element as soon as it ends";
+pub const LIVE: &str = "Report each element as soon as it ends";
 
-pub const LONG_LIVE: &str = "Tell each element as soon as the record separator behind it is read,
+pub const LONG_LIVE: &str = "Report each element as soon as the record separator after it is read,
 before more input is waited for. What was written stays, also where a
-read fails later. One worker reads, and no element is held. The lines
-are those without this option.";
+read fails later. One worker reads, and no element is kept in memory.
+The lines are those without this option.";
 
 pub const QUIET: &str = "Write no output: the exit status is the answer";
 
-pub const LONG_QUIET: &str = "Write no output: the exit status is the answer. What goes wrong is
-still told on standard error.";
+pub const LONG_QUIET: &str = "Write no output: the exit status is the answer. Faults are still
+reported on standard error.";
 
 pub const LIST: &str = "List the refused files alone";
 
@@ -251,44 +255,46 @@ pub const LONG_FORMAT: &str = "Answer as plain, which is as below; as gnu, which
 file that is refused, FILE:LINE:COLUMN: SENTENCE (byte K); or as
 json, which is an object on a line of its own for each file: name and
 verdict, and where it is refused offset, line, column, sentence and
-pointer, as 'jx explain' tells them. The pointer is null where a name
-on the way stands for no text. With gnu and json the whole of a text
-that is refused is held.";
+pointer, as 'jx explain' prints them. The pointer is null where a
+name on the way has half of a surrogate pair alone. With gnu and json
+the whole of a text that is refused is kept in memory.";
 
 pub const LONG_FORMAT_OF_LINES: &str =
     "Answer as plain, which is as below; as gnu, which is for each line
 that is no JSON text FILE:N:COLUMN: VERDICT, and no total; or as
 json, which is an object for each, on a line of its own, with name,
-line, column, start, end, offset and verdict, and one behind them
+line, column, start, end, offset and verdict, and one after them
 with name, accepted and refused. COLUMN counts the bytes of a line
 from 1.";
 
-pub const COMPACT: &str = "Leave out blanks between tokens";
+pub const COMPACT: &str = "Leave out white space between tokens";
 
 pub const LONG_COMPACT: &str =
-    "Leave out blanks between tokens, so that each value is one line. Each
-token keeps its bytes: no number, name or string is spelt anew.";
+    "Leave out white space between tokens, so that each value is one line.
+Each token keeps its bytes: no number, name or string is written
+anew.";
 
 pub const BY_LINE: &str = "Answer each line of JSON Lines by itself";
 
 pub const LONG_BY_LINE: &str = "Read JSON Lines, and write a line for each line: the values of its
-text, a tab between, without blanks between tokens. It is written
-as soon as the line has ended. Not with --raw or --unique-names.";
+text, a tab between, without white space between tokens. It is
+written as soon as the line has ended. Not with --raw or
+--unique-names.";
 
 pub const RAW: &str = "Write the text that a string stands for";
 
 pub const LONG_RAW: &str = "Write the text that a string stands for, in UTF-8, without quotation
 marks and escapes (RFC 8259, section 7). Other values are written as
-without this option. A string with half of a surrogate pair alone
-stands for no text: its line is empty.";
+without this option. A string with half of a surrogate pair alone has
+no UTF-8: its line is empty.";
 
-pub const POINTER: &str = "A JSON Pointer (RFC 6901), as it is spelt";
+pub const POINTER: &str = "A JSON Pointer (RFC 6901), as it is";
 
-pub const LONG_POINTER: &str = "A JSON Pointer (RFC 6901, section 3), taken as it stands: empty for
-the whole text, or tokens that each follow a slash, as /users/0/name.
-In a token ~1 stands for a slash and ~0 for a tilde. What is .a.b or
-$.a.b elsewhere is /a/b here, and a FILE stands behind --file. Behind
-the word -- also what begins with a hyphen is taken for a pointer.";
+pub const LONG_POINTER: &str = "A JSON Pointer (RFC 6901, section 3), taken as it is: empty for the
+whole text, or tokens that each follow a slash, as /users/0/name. In
+a token ~1 stands for a slash and ~0 for a tilde. What is .a.b or
+$.a.b elsewhere is /a/b here, and a FILE follows --file. After the
+argument -- also what begins with a hyphen is taken for a pointer.";
 
 pub const CONTAINER: &str = "Write the elements of what POINTER leads to";
 
@@ -300,37 +306,35 @@ taken.";
 pub const NAMES: &str = "Write names too, of the members of an object";
 
 pub const LONG_NAMES: &str = "Write names too, of the members of an object: each line is an object
-{\"name\":NAME,\"value\":VALUE}, with the name as it is spelt. An array
-has no names: it is refused.";
+{\"name\":NAME,\"value\":VALUE}, with the name as the text has it. An
+array has no names: it is refused.";
 
 pub const TABLES: &str = "Write tables of names too";
 
-pub const LONG_TABLES: &str = "Write tables of names too, behind the index. By them fewer chunks are
+pub const LONG_TABLES: &str = "Write tables of names too, after the index. By them fewer chunks are
 read of an object with many members. They have some four bytes for
 each member of the objects that stand in several chunks.";
 
 pub const POINTERS: &str = "Look up the lines of FILE too";
 
-pub const LONG_POINTERS: &str =
-    "Look up the lines of FILE too, behind the pointers among the words. A
-line feed ends a line, or a carriage return and a line feed, and the
-last line may do without; an empty line is the empty pointer. There
-has to be a POINTER or this option.";
+pub const LONG_POINTERS: &str = "Look up the lines of FILE too, after the pointers among the
+arguments. A line feed ends a line, or a carriage return and a line
+feed, and the last line may do without; an empty line is the empty
+pointer. There has to be a POINTER or this option.";
 
 pub const INDEX_FILE: &str = "Look up by the index of the text in FILE";
 
 pub const LONG_INDEX_FILE: &str =
     "Look up by the index of the text in FILE, which 'jx save' wrote. Of
-the text, which has to stand behind --file, only those chunks are
-read that are needed. Each is held to its digest; whether others have
+the text, which --file has to name, only those chunks are read that
+are needed. The checksum of each is checked; whether others have
 changed is not seen. Depth, byte order mark and unique names are
 those of the index.";
 
 pub const TEXT_FILE: &str = "Read the text in FILE";
 
-pub const LONG_TEXT_FILE: &str =
-    "Read the text in FILE, whose index is given. The word behind --file
-is taken as it stands, also where it begins with a hyphen.";
+pub const LONG_TEXT_FILE: &str = "Read the text in FILE, whose index is given. The argument after
+--file is taken as it is, also where it begins with a hyphen.";
 
 pub const PARTS: &str = "Cut into N parts, 1 to 65536";
 
@@ -403,7 +407,7 @@ Examples:
 pub const AFTER_AT: &str = "Output, a line for each pointer, whose tokens count from 0:
   found KIND S..E             the value's kind and span
   no slash                    it is not empty and begins with no slash
-  bad escape at K             its byte K is a tilde with no 0 or 1 behind it
+  bad escape at K             its byte K is a tilde with no 0 or 1 after it
   no such member at token K   the object has no member of this name
   name repeated at token K    the object has several members of this name
   not an index at token K     the token is no number of an element
@@ -414,13 +418,13 @@ Of a text that is refused, one line as by 'jx check'.
 
 Exit status: 0 all found, 1 refused or not all found, 2 no answer.
 
-The text is read once. At most 256 KiB of it are held, and with --unique-names
-the names of open objects. With 10000 pointers or more the whole input is
-held.
+The text is read once. At most 256 KiB of it are kept in memory, and with
+--unique-names the names of open objects. With 10000 pointers or more the whole
+input is kept.
 
-With --index the index is held, and of the text a chunk at a time. There is no
-output where the bytes of a chunk that is read have changed, where the text
-has another size, or where FILE is no index.
+With --index the index is kept in memory, and of the text a chunk at a time.
+There is no output where the bytes of a chunk that is read have changed, where
+the text has another size, or where FILE is no index.
 
 Examples:
   jx at '' /users/0/name --file dump.json
@@ -433,22 +437,23 @@ pub const AFTER_GET: &str =
 text, or an empty line where it has no value. A value with line ends between
 its tokens takes several lines, unless --compact leaves them out.
 
-What is not written is told on standard error, behind the output:
+What is not written is reported on standard error, after the output:
   jx: POINTER: ANSWER  the pointer leads nowhere; ANSWER is that of 'jx at',
                        or with --raw: half a surrogate pair
   jx: VERDICT          the text is refused, as by 'jx check'; no output
 
 With --lines line i of the output answers line i of the input, and what is not
-written is told while the input is read:
+written is reported while the input is read:
   jx: line N: POINTER: ANSWER  as above, in the text of line N
-  jx: line N: VERDICT          line N is no text, as by 'jx lines'; offsets
-                               count from the start of the line
+  jx: line N: VERDICT          line N is not a JSON text, as by 'jx lines';
+                               offsets count from the start of the line
 
 Exit status: 0 all written, 1 refused or not all written, 2 no answer.
 
-With --index the index is held, and of the text a chunk and a value at a time.
-A line is written once each chunk that has bytes of its value was held to its
-digest. So whole lines stand before a fault, those of the pointers before it.
+With --index the index is kept in memory, and of the text a chunk and a value
+at a time. A line is written once the checksums of all chunks of its value were
+checked. So before a fault whole lines were written, those of the pointers
+before it.
 
 Examples:
   jx get /users/0/name --file dump.json
@@ -461,16 +466,17 @@ Examples:
 
 pub const AFTER_EACH: &str =
     "Output, a line for each element of the array that POINTER leads to, or for
-the value of each member of the object: its tokens without blanks between
-them, each with its own bytes. So each line is a JSON text. With --names a line
-is {\"name\":NAME,\"value\":VALUE}, for each member of an object alone.
+the value of each member of the object: its tokens without white space
+between them, each with its own bytes. So each line is a JSON text. With
+--names a line is {\"name\":NAME,\"value\":VALUE}, for each member of an
+object alone.
 
-A line is written once the comma or the bracket behind the element was read,
+A line is written once the comma or the bracket after the element was read,
 also where the text is refused further on: what was written stays. Who must
 not load a part of a text runs 'jx check' first, or ends a transaction by the
-status. The text is read to its end, and not held but for one element.
+status. The text is read to its end, and one element is kept in memory.
 
-What is told on standard error, behind the output:
+Reports on standard error, after the output:
   jx: VERDICT                     the text is refused, as by 'jx check'
   jx: not a container at token N  POINTER leads to a scalar by N tokens
   jx: not an object at token N    with --names: to no object
@@ -488,9 +494,9 @@ Examples:
 
 pub const AFTER_SEQ: &str = "Output, a line for each element, its span and then:
   accepted            it is a JSON text
-  may be cut          its root is a number or a literal with nothing behind it
+  may be cut          its root is a number or a literal with nothing after it
                       (RFC 7464, section 2.4)
-  unmarked            it stands before the first record separator (byte 1E)
+  unmarked            it is before the first record separator (byte 1E)
   stopped at K        as by 'jx check'; K counts from the start of the input
   truncated           as by 'jx check'
   too deep at K       as by 'jx check'; K counts from the start of the input
@@ -506,21 +512,21 @@ Examples:
 
 pub const AFTER_LINES: &str =
     "Input, JSON Lines (NDJSON): each line is a JSON text. A line feed ends a line,
-and the last line may do without. A carriage return before it is a blank.
+and the last line may do without. A carriage return before it is white space.
 
 Output, a line for each one that is no JSON text, and then the total:
   N S..E VERDICT          the number of the line, from 1, its span without the
-                          line feed, and what it comes to
-  accepted A, refused R   how many lines are JSON texts, and how many are told
+                          line feed, and the verdict on it
+  accepted A, refused R   how many lines are JSON texts, and how many not
 VERDICT is that of 'jx check', with offsets from the start of the input, or:
-  blank                   the line has no byte, or blanks alone
+  blank                   the line has no byte, or white space alone
   may be cut              no line feed ends it, and its root is a number or a
-                          literal with nothing behind it
+                          literal with nothing after it
 
-A line is told once its line feed is read, before more input is waited for.
-What was written stays, also where a read fails later. No line is held.
+A line is reported once its line feed is read, before more input is waited for.
+What was written stays, also where a read fails later. No line is kept.
 
-Exit status: 0 none is told, 1 otherwise, 2 no answer; of several files the
+Exit status: 0 none is reported, 1 otherwise, 2 no answer; of several files the
 greatest.
 
 Examples:
@@ -531,12 +537,12 @@ Examples:
 
 pub const AFTER_SAVE: &str =
     "Output, the index of the text, to be kept beside it: of each chunk of the
-text how its reading begins, what it opens and closes, and a digest. With
-chunks of 32768 bytes it has 0.075 % of the text's size. It is no text, and is
-not written to a terminal. The text is read once, and not held; its index is,
+text how its reading begins, what it opens and closes, and a checksum. With
+chunks of 32768 bytes it has 0.075 % of the text's size. It is not JSON, and is
+not written to a terminal. The text is read once, and not kept; its index is,
 with --names its tables, and with --unique-names the names of open objects.
 
-What is told on standard error:
+Reports on standard error:
   jx: VERDICT  the text is refused, as by 'jx check'; no output
 
 Exit status: 0 the index is written, 1 refused, 2 no answer.
@@ -549,29 +555,29 @@ Examples:
 pub const AFTER_SPLIT: &str = "Output, a line for each part that is not empty:
   S..E I..J  the span S..E has the children I up to J of the container
 Children are elements, or members with their names. They count from 0; J is
-left out. S is behind the comma or the bracket before child I, and E before the
-one behind the last child. With brackets of the container's kind around them
+left out. S is after the comma or the bracket before child I, and E before the
+one after the last child. With brackets of the container's kind around them
 the bytes of a part are a JSON text.
 
-What is told on standard error, with no output:
+Reports on standard error, with no output:
   jx: not a container at token K  POINTER leads to a scalar by K tokens
   jx: ANSWER                      POINTER leads nowhere, as by 'jx at'
 
-The index is held, and of the text a chunk at a time. There is no output where
-the bytes of a chunk that is read have changed, where the text has another
-size, or where FILE is no index.
+The index is kept in memory, and of the text a chunk at a time. There is no
+output where the bytes of a chunk that is read have changed, where the text has
+another size, or where FILE is no index.
 
-Exit status: 0 the parts are told, 1 no container, 2 no answer.
+Exit status: 0 the parts are printed, 1 no container, 2 no answer.
 
 Examples:
   jx split --index dump.json.jxi --file dump.json --parts 8
   jx split --index dump.json.jxi --file dump.json --parts 64 /items";
 
 pub const AFTER_PART: &str =
-    "Output, one run: some KB that say what the part comes to, whatever stands
-before it and behind it. A part may begin and end at any byte, and may be
-empty. It is read once, in constant memory. A run is no text, and is not
-written to a terminal.
+    "Output, one run: some KB with the result of reading the part, whatever is
+before it and after it. A part may begin and end at any byte, and may be empty.
+It is read once, in constant memory. A run is not JSON, and is not written to a
+terminal.
 
 Exit status: 0 the run is written, 2 no answer.
 
@@ -580,7 +586,7 @@ Examples:
   tail -c +4097 text.json | jx part --from 4096 > 1.run";
 
 pub const AFTER_JOIN: &str =
-    "Input, runs one behind another, in the order of their parts. Output, the
+    "Input, runs one after another, in the order of their parts. Output, the
 run of all these parts. Runs may be joined in any bracketing.
 
 Exit status: 0 the run is written, 2 no answer.
@@ -590,7 +596,7 @@ Examples:
   cat front.run 2.run | jx join";
 
 pub const AFTER_WHOLE: &str =
-    "Input, runs one behind another, in the order of their parts. Output, one
+    "Input, runs one after another, in the order of their parts. Output, one
 line as by 'jx check' on the whole text, with offsets of the whole. It is
 right if each run is that of its part.
 

@@ -18,8 +18,8 @@ pub enum Input<'a> {
 pub enum Inputs<'a> {
     /// One input, whose answer stands alone.
     One(Input<'a>),
-    /// The inputs that words name, in their order. The answer for each stands behind its word. They are two or more, unless the
-    /// words ask for names.
+    /// The inputs that arguments name, in their order. The answer for each follows its name. They are two or more, unless the
+    /// arguments ask for names.
     Several(Vec<&'a str>),
 }
 
@@ -45,7 +45,7 @@ pub fn inputs_of<'a>(words: Vec<&'a str>) -> Inputs<'a>
     }
 }
 
-/// The same, where the answer for each is to stand behind its word, also where it stands alone.
+/// The inputs where the answer for each is to follow its name, also where it is the only one.
 pub fn named_inputs_of<'a>(mut words: Vec<&'a str>) -> Result<Inputs<'a>, AllocError>
     ensures { IfOk result (AreNamedInputsOf (map (λ word. word.now) words.entry.items)) }
 {

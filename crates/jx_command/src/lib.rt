@@ -1,4 +1,4 @@
-//! The words of the command line: which command they are, or why they are none.
+//! Reads arguments: which command they are, or why they are not one.
 #![tactic(auto)]
 
 mod arg_fault;
@@ -20,6 +20,7 @@ mod request;
 mod save_arguments;
 mod split_arguments;
 mod values_arguments;
+mod worker_count;
 
 pub use arg_fault::ArgFault;
 pub use arguments::command_of;

@@ -2,7 +2,7 @@
 ghost use Rattle.std.specs.Prelude.{◌≤◌, IfOk};
 
 use crate::arg_fault::ArgFault;
-use crate::arguments::{format_of, inputs_named, mark_of, piece_of, words_of, workers_of};
+use crate::arguments::{format_of, inputs_named, mark_of, piece_of, words_of};
 use crate::options::depth_of;
 use crate::order::LinesOrder;
 use clap::ArgMatches;
@@ -14,11 +14,11 @@ use std::alloc::Global;
 /// where there is none is never met.
 pub(crate) fn lines_order_from<'a>(
     alloc: Global,
+    workers: Workers,
     options: &ArgMatches<'a>,
 ) -> Result<LinesOrder<'a>, ArgFault>
     ensures { IfOk result (λ order. 1 ≤ order.piece) }
 {
-    let one_worker = Workers::new(1).unwrap();
     Ok(LinesOrder {
         inputs: inputs_named(options, words_of(alloc, options))?,
         settings: Settings {
@@ -26,7 +26,7 @@ pub(crate) fn lines_order_from<'a>(
             mark: mark_of(options),
             names: NameRule::Any,
         },
-        workers: workers_of(options).unwrap_or(one_worker),
+        workers,
         piece: piece_of(options).unwrap_or(1),
         skips_blanks: options.get_flag("skip_blank"),
         is_quiet: options.get_flag("quiet") || options.get_flag("list"),

@@ -1,6 +1,7 @@
 // The options and words of the commands.
 use crate::arg_row::{ArgRow, FLAG, Takes};
 use crate::help;
+use crate::worker_count::AUTO;
 use clap::builder::ValueParser;
 
 /// When output for people has colors, and when progress is shown.
@@ -109,8 +110,8 @@ pub(crate) const DEPTH_OF_RUNS: ArgRow = ArgRow {
 pub(crate) const WORKERS: ArgRow = ArgRow {
     id: "workers",
     long: Some("workers"),
-    takes: Takes::Parsed("N", ValueParser::Unsigned(1, 64)),
-    default: Some("4"),
+    takes: Takes::Word("N"),
+    default: Some(AUTO),
     help: help::WORKERS,
     ..FLAG
 };
@@ -122,7 +123,7 @@ pub(crate) const EACH_WORKERS: ArgRow = ArgRow {
     ..WORKERS
 };
 
-/// How many bytes a piece has. Each command says what pieces are.
+/// The size of a chunk. Each command says what chunks are.
 pub(crate) const PIECE: ArgRow = ArgRow {
     id: "piece",
     long: Some("piece"),
@@ -279,7 +280,7 @@ pub(crate) const NAMES: ArgRow = ArgRow {
     ..FLAG
 };
 
-/// Whether tables of names stand behind an index.
+/// Whether tables of names follow an index.
 pub(crate) const TABLES: ArgRow = ArgRow {
     help: help::TABLES,
     long_help: help::LONG_TABLES,

@@ -25,7 +25,7 @@ pub(crate) fn input_of_word<'a>(options: &ArgMatches<'a>) -> Input<'a> {
     }
 }
 
-/// Whether it is told by the options how far an input was read.
+/// Whether progress is shown by the options.
 pub(crate) fn progress_of(options: &ArgMatches<'_>) -> ShowProgress {
     match options.get_str("progress") {
         Some("auto") => ShowProgress::Auto,

@@ -1,14 +1,14 @@
-// What the words of the command line ask for: a report, work on the parts of a text, values, elements, lines, a sequence as it
+// What arguments ask for: a report, work on the parts of a text, values, elements, lines, a sequence as it
 // comes, an index that is saved, or the borders of a container's parts.
 use crate::inputs::{Input, Inputs};
 use crate::request::{Request, ShowProgress, Told};
 use jx_crew::Workers;
+use jx_file_index::ChunkSize;
 use jx_lex::Depth;
 use jx_run::Settings;
-use jx_saved::ChunkSize;
 use jx_task::ValuesTask;
 
-/// What the words of the command line ask for.
+/// What arguments ask for.
 #[derive(Debug, Drop)]
 pub enum Order<'a> {
     /// A report on what is read.
@@ -43,7 +43,7 @@ pub struct PartsOrder<'a> {
 /// A step from the parts of a text to its verdict.
 #[derive(Clone, Copy, Debug, PartialEq, Eq)]
 pub enum PartsStep {
-    /// A part is read, and its run is written. Where `from` is told, the part begins at this offset of the text.
+    /// A part is read, and its run is written. Where there is a `from`, the part begins at this offset of the text.
     Part { from: Option<usize> },
     /// Runs of neighbors are read in order, and their joined run is written.
     Join,
@@ -57,11 +57,11 @@ pub struct ValuesOrder<'a> {
     pub task: ValuesTask,
     /// What is read.
     pub input: Input<'a>,
-    /// FILE whose lines are looked up behind the pointers among the words.
+    /// FILE whose lines are looked up after the pointers among the words.
     pub pointers: Option<&'a str>,
     /// FILE with the index by which they are looked up. Then the input is a file, and it is read as the index says.
     pub index: Option<&'a str>,
-    /// Whether blanks between tokens are left out.
+    /// Whether white space between tokens is left out.
     pub is_compact: bool,
     /// Whether a string is written as the text that it stands for.
     pub is_raw: bool,
@@ -72,7 +72,7 @@ pub struct ValuesOrder<'a> {
 /// How the lines of an input are answered one by one.
 #[derive(Clone, Copy, Debug, PartialEq, Eq)]
 pub struct ByLine {
-    /// Whether nothing is told of blank lines.
+    /// Whether empty lines are skipped in silence.
     pub skips_blanks: bool,
 }
 
@@ -89,9 +89,9 @@ pub struct EachOrder<'a> {
     pub settings: Settings,
     /// How many workers share what is read at a time.
     pub workers: Workers,
-    /// How many bytes a worker draws at a time.
+    /// How many bytes a worker takes at a time.
     pub piece: usize,
-    /// Whether it is told how far it was read.
+    /// Whether progress is shown.
     pub progress: ShowProgress,
 }
 
@@ -104,17 +104,17 @@ pub struct LinesOrder<'a> {
     pub settings: Settings,
     /// How many workers share the lines that are read at a time.
     pub workers: Workers,
-    /// How many bytes a worker draws at a time, and what is left of a line then.
+    /// How many bytes a worker takes at a time, and what is left of a line then.
     pub piece: usize,
-    /// Whether blank lines are passed.
+    /// Whether empty lines are skipped.
     pub skips_blanks: bool,
     /// Whether nothing is written of a line.
     pub is_quiet: bool,
-    /// How it is told of a line, or of an input that has refused ones.
+    /// The format of a report on a line, or on an input that has refused ones.
     pub told: Told,
 }
 
-/// Elements of text sequences, which are told while they are read.
+/// Elements of text sequences, which are reported while they are read.
 #[derive(Debug, Drop)]
 pub struct LiveOrder<'a> {
     /// What is read.
@@ -132,11 +132,11 @@ pub struct SaveOrder<'a> {
     pub input: Input<'a>,
     /// How it is read.
     pub settings: Settings,
-    /// How many bytes each chunk has that the index tells of.
+    /// How many bytes of the text each entry of the index is about.
     pub chunk: ChunkSize,
-    /// Whether tables of its names stand behind the index.
+    /// Whether tables of its names follow the index.
     pub has_names: bool,
-    /// Whether it is told how far it was read.
+    /// Whether progress is shown.
     pub progress: ShowProgress,
 }
 

@@ -1,31 +1,31 @@
-// What the words of the command line ask for.
+// What arguments ask for.
 use crate::inputs::Inputs;
 use jx_task::Command;
 
-/// What the words of the command line ask for.
+/// What arguments ask for.
 #[derive(Debug, Drop)]
 pub struct Request<'a> {
     pub command: Command,
     /// What is read.
     pub inputs: Inputs<'a>,
-    /// FILE whose lines are looked up behind the pointers among the words.
+    /// FILE whose lines are looked up after the pointers among the words.
     pub pointers: Option<&'a str>,
     /// FILE with the index by which pointers are looked up.
     pub index: Option<&'a str>,
-    /// How the answer is told.
+    /// The format of the answer.
     pub told: Told,
-    /// Whether it is told how far an input was read.
+    /// Whether progress is shown.
     pub progress: ShowProgress,
 }
 
-/// How the answer is told.
+/// The format of the answer.
 #[derive(Clone, Copy, Debug, PartialEq, Eq)]
 pub enum Told {
     /// By the lines of a report.
     Lines,
     /// By the names of the inputs that are refused.
     Refused,
-    /// By a line for each input that is refused, as compilers tell of faults: the place and a sentence.
+    /// By a line for each input that is refused, as compilers report faults: the place and a sentence.
     Marks,
     /// By a JSON object for each input.
     Objects,
@@ -33,7 +33,7 @@ pub enum Told {
     Explained(Color, TellAccepted),
 }
 
-/// Whether people are told that a text is accepted.
+/// Whether an accepted text is reported.
 #[derive(Clone, Copy, Debug, PartialEq, Eq)]
 pub enum TellAccepted {
     /// Where there are several inputs.
@@ -42,7 +42,7 @@ pub enum TellAccepted {
     Never,
 }
 
-/// Whether what is told to people has colors.
+/// Whether messages to people have colors.
 #[derive(Clone, Copy, Debug, PartialEq, Eq)]
 pub enum Color {
     /// Where the output is a terminal.
@@ -51,7 +51,7 @@ pub enum Color {
     Never,
 }
 
-/// Whether it is told on standard error how far an input was read.
+/// Whether progress is shown on standard error.
 #[derive(Clone, Copy, Debug, PartialEq, Eq)]
 pub enum ShowProgress {
     /// Where standard error is a terminal.

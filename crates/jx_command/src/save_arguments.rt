@@ -4,9 +4,9 @@ use crate::arguments::settings_of;
 use crate::options::{input_of_word, progress_of};
 use crate::order::SaveOrder;
 use clap::ArgMatches;
-use jx_saved::ChunkSize;
+use jx_file_index::ChunkSize;
 
-/// How many bytes a chunk has by the options, if they tell and it is one of its sizes.
+/// How many bytes a chunk has by the options, if they say and it is one of its sizes.
 fn chunk_of(options: &ArgMatches<'_>) -> Option<ChunkSize> {
     let bytes: u32 = options.get_one::<u32>("chunk")?;
     ChunkSize::new(bytes as usize)

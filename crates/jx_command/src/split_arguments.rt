@@ -1,11 +1,11 @@
-// The words of the subcommand that tells the borders of parts.
+// The arguments of the subcommand that prints the borders of parts.
 ghost use Rattle.std.specs.Prelude.{◌≤◌, IfSome};
 
 use crate::option_rows::MOST_PARTS;
 use crate::order::SplitOrder;
 use clap::ArgMatches;
 
-/// How many parts the options ask for, if they tell and there may be as many.
+/// How many parts the options ask for, if they say and there may be as many.
 fn parts_of(options: &ArgMatches<'_>) -> Option<usize>
     ensures some { IfSome result (λ parts. 1 ≤ parts) }
     ensures within { IfSome result (λ parts. parts ≤ 65536) }

@@ -1,7 +1,7 @@
 // The words of the subcommand that writes values.
 ghost use Rattle.std.specs.Prelude.{◌≤◌, IfOk};
 
-use crate::arguments::{piece_of, pointers_of, settings_of, workers_of};
+use crate::arguments::{piece_of, pointers_of, settings_of};
 use crate::options::input_from;
 use crate::order::{ByLine, ValuesOrder};
 use clap::ArgMatches;
@@ -24,16 +24,16 @@ fn by_line_from(options: &ArgMatches<'_>) -> Option<ByLine> {
 /// where there is none is never met.
 pub(crate) fn values_order_from<'a>(
     alloc: Global,
+    workers: Workers,
     options: &ArgMatches<'a>,
 ) -> Result<ValuesOrder<'a>, AllocError>
     ensures { IfOk result (λ order. 1 ≤ order.task.piece) }
 {
-    let one_worker = Workers::new(1).unwrap();
     Ok(ValuesOrder {
         task: ValuesTask {
             pointers: pointers_of(alloc, options)?,
             settings: settings_of(options),
-            workers: workers_of(options).unwrap_or(one_worker),
+            workers,
             piece: piece_of(options).unwrap_or(1),
         },
         input: input_from(options),

@@ -7,6 +7,6 @@ mod place;
 mod placing;
 
 pub use compacting::{compact, compact_onto};
-pub use laws::{compact_goes_on, compact_is_compact, compact_is_one_line};
+pub use laws::{compact_idempotence, compact_of_two_parts, compact_without_line_ends};
 pub use place::{Place, is_kept, next};
 pub use placing::{compact_into, compact_len};

@@ -8,7 +8,8 @@ ghost use Rattle.jx_run.specs.Settings.{BeginsBy};
 use crate::closing::end_text;
 use jx_reduce::KnownStack;
 use jx_run::{
-    Progress, Refusal, Settings, Verdict, progress_at_start, read_on, reader_is_grammar, verdict_at,
+    Progress, Refusal, Settings, Verdict, progress_at_start, read_on, reader_and_grammar,
+    verdict_at,
 };
 use std::alloc::{AllocError, Global};
 
@@ -61,7 +62,7 @@ fn ended(
     ensures some { IfOk result (λ text. IfSome text (λ text. IsEnded settings.now bytes.items text.items)) }
     ensures none { IfOk result (λ text. text ≡ None → IsEndedMark bytes.items) }
 {
-    reader_is_grammar();
+    reader_and_grammar();
     let mut reached = read_all(alloc, &bytes, settings)?;
     match reached.progress {
         Progress::Front(_) => Ok(None),

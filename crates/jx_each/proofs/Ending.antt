@@ -1,10 +1,9 @@
 -- Bytes that were copied behind what was made, while the elements there are ended one after another.
 use Rattle.std.specs.Prelude.{slice_range}
-use Rattle.std.proofs.Common.{◌≡◌, ℕ, ◌+◌, ◌-◌, ◌<◌, ◌≤◌, List, [], ◌∷◌, ◌++◌, length, take, drop, get_or, Bool, bit_or, true, inl, inr, refl, sym, ap, subst, ◌∙◌, arith}
+use Rattle.std.proofs.Common.{◌≡◌, ℕ, ◌+◌, ◌-◌, ◌<◌, ◌≤◌, List, [], ◌∷◌, ◌++◌, length, take, drop, get_or, Bool, true, inl, inr, refl, sym, ap, subst, ◌∙◌, arith}
 use Rattle.std.specs.Simd.Lanes.{chunk}
 use Rattle.std.proofs.lemmas.Bool.{cases_lt}
 use Rattle.jx_lex.specs.inside.Bits.{bit}
-use Rattle.jx_lex.proofs.Bits.{bit-none}
 use Rattle.std.proofs.lemmas.List.{append-nil, drop-drop, drop-take, drop_all, drop_at, get_or-drop, get_or-take, length-append, length-take-le, take-append-le, take_all, take_at}
 use Rattle.std.proofs.Math.Seq.{take-add}
 use Rattle.jx_lex.proofs.Running.{take-again}
@@ -16,7 +15,7 @@ use Rattle.jx_each.specs.inside.Stretches.{IsLed, IsStretch}
 use Rattle.jx_each.specs.declared.blocks.Words.{Words}
 use Rattle.jx_each.specs.inside.Blocks.{IsTold, place_at}
 use Rattle.jx_each.proofs.Leading.{led_none_at, led_passed, led_stretch}
-use Rattle.jx_each.proofs.Walking.{blanks_lead, blanks_pass, deep_still, neither, walk_quiet}
+use Rattle.jx_each.proofs.Walking.{blanks_lead, blanks_pass}
 
 -- what was made before the last bytes, which are those from one place up to another
 abbrev pub made_at : List ℕ → ℕ → ℕ → List ℕ
@@ -197,16 +196,3 @@ module _ (xs : List ℕ) (base : ℕ) (inside : Bool) (w : Words) (room : base +
         | inr ge ↦ (let same : to ≡ past = omega (arith, low, ge) in
             subst (λ (j : ℕ). IsLed (place_at inside w to) n out (slice_range xs (base + to) (base + j)) (place_at inside w j) n out) same (led_none_at (place_at inside w to) n out xs (base + to)))
       ]
-
-  -- where none of them does anything
-  pub led_quiet : (n : Nest) (out longer : List ℕ) → 1 < n.height → n.begin ≤ length out → bit_or w.brackets w.gaps ≡ 0 → longer ≡ out ++ slice_range xs base (base + w.len)
-      → IsLed (place_at inside w 0) n out (slice_range xs base (base + w.len)) (place_at inside w w.len) n longer
-  led_quiet n out longer high le none is =
-      let most : w.len ≤ 64 = told.bounds.1 in
-      let start : base + 0 ≡ base = omega arith in
-      let quiet : IsStretch (place_at inside w 0) n.height (slice_range xs (base + 0) (base + w.len)) (place_at inside w w.len) n.height =
-      walk_quiet xs base inside w room told n.height 0 w.len (omega arith) most
-      (λ k low lt. let clear = neither w.brackets w.gaps k (ap (λ (m : ℕ). bit m k) none ∙ bit-none k) in deep_still xs base inside w room told n.height k high (omega (arith, lt, most)) clear.0 clear.1) in
-      subst (λ (l : List ℕ). IsLed (place_at inside w 0) n out (slice_range xs base (base + w.len)) (place_at inside w w.len) n l) (sym is)
-      (led_stretch (place_at inside w 0) (place_at inside w w.len) n n.height out (slice_range xs base (base + w.len)) le
-      (subst (λ (j : ℕ). IsStretch (place_at inside w 0) n.height (slice_range xs j (base + w.len)) (place_at inside w w.len) n.height) start quiet))

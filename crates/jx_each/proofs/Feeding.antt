@@ -14,32 +14,27 @@ use Rattle.jx_lex.proofs.Slices.{slice-more, slice-none}
 use Rattle.jx_each.specs.declared.blocks.Words.{Words}
 use Rattle.jx_each.specs.declared.nest.Nest.{Nest}
 use Rattle.jx_each.specs.Turns.{height_next}
-use Rattle.jx_each.specs.inside.Blocks.{IsTold, in_at, place_at, place_by}
+use Rattle.jx_each.specs.inside.Blocks.{IsTold, in_at, place_at}
 use Rattle.jx_each.specs.inside.Flat.{IsFlat, fed, is_comma}
 use Rattle.jx_each.specs.inside.Stretches.{IsLed, IsStretch}
 use Rattle.jx_each.proofs.Keeping.{Still}
 use Rattle.jx_each.proofs.Leading.{led_border, led_none_at, led_slice, led_stretch}
 use Rattle.jx_each.proofs.Stretching.{one_stretch}
-use Rattle.jx_each.proofs.Walking.{flat_still, goes, neither}
+use Rattle.jx_each.proofs.Walking.{flat_still, neither}
 
 -- ---- what was looked at
-
-none_first : (inside : Bool) (s k : ℕ) → inside ≡ false → ((j : ℕ) → bit s j ≡ false) → in_at inside s k ≡ false
-none_first inside s zero out none = out
-none_first inside s (suc k) out none = none k
 
 both_not : (a b : Bool) → (a && b) ≡ false → a ≡ true → b ≡ false
 both_not true b h q = h
 both_not false b h q = let e : false ≡ true = q in absurd cc
 
-pub flat_is : (v : List ℕ) (inside : Bool) (w : Words) (begun : Bool) (commas end : ℕ) → length v ≡ 64 → commas ≡ mask_l (map is_comma v) → inside ≡ false → w.len ≡ 64 → w.borders ≡ commas
-    → bit_or (bit_or (bit_or w.strings w.escapes) w.brackets) w.gaps ≡ 0 → ((k : ℕ) → k < 64 → (bit commas k && in_at (not begun) commas k) ≡ false) → end ≤ 64
-    → ((k : ℕ) → end ≤ k → k < 64 → bit commas k ≡ false) → (0 < end → bit commas (end - 1) ≡ true) → IsFlat v inside w begun end
-flat_is v inside w begun commas end long is out whole borders none apart within behind last = record {
-  outside = λ k. ap (λ (m : Bool). place_by m (in_at inside w.strings k)) (none_first false w.escapes k refl (λ j. (clear j).1.1)) ∙ ap (place_by false) (none_first inside w.strings k out (λ j. (clear j).1.0));
+pub flat_is : (v : List ℕ) (w : Words) (begun : Bool) (commas end : ℕ) → length v ≡ 64 → commas ≡ mask_l (map is_comma v) → w.len ≡ 64 → w.borders ≡ commas
+    → bit_or w.brackets w.gaps ≡ 0 → ((k : ℕ) → k < 64 → (bit commas k && in_at (not begun) commas k) ≡ false) → end ≤ 64
+    → ((k : ℕ) → end ≤ k → k < 64 → bit commas k ≡ false) → (0 < end → bit commas (end - 1) ≡ true) → IsFlat v w begun end
+flat_is v w begun commas end long is whole borders none apart within behind last = record {
   whole = whole;
-  brackets = λ k. (clear k).0.1;
-  gaps = λ k. (clear k).0.0;
+  brackets = λ k. (clear k).0;
+  gaps = λ k. (clear k).1;
   borders = λ k lt. ap (λ (n : ℕ). bit n k) borders ∙ comma k lt;
   first = λ c. not-false begun (both_not (bit commas 0) (not begun) (apart 0 (omega arith)) (comma 0 (omega arith) ∙ c));
   apart = λ k lt c. sym (comma k (omega (arith, lt))) ∙ both_not (bit commas (suc k)) (bit commas k) (apart (suc k) lt) (comma (suc k) lt ∙ c);
@@ -51,12 +46,8 @@ flat_is v inside w begun commas end long is out whole borders none apart within 
     comma : (k : ℕ) → k < 64 → bit commas k ≡ is_comma (get_or v k 0)
     comma k lt = ap (λ (n : ℕ). bit n k) is ∙ bit-mask is_comma v k (omega (arith, lt, long))
 
-    clear : (k : ℕ) → ((bit w.gaps k ≡ false) × (bit w.brackets k ≡ false)) × ((bit w.strings k ≡ false) × (bit w.escapes k ≡ false))
-    clear k =
-        let a = neither (bit_or (bit_or w.strings w.escapes) w.brackets) w.gaps k (ap (λ (n : ℕ). bit n k) none ∙ bit-none k) in
-        let b = neither (bit_or w.strings w.escapes) w.brackets k a.0 in
-        let c = neither w.strings w.escapes k b.0 in
-        ((a.1, b.1), (c.0, c.1))
+    clear : (k : ℕ) → (bit w.brackets k ≡ false) × (bit w.gaps k ≡ false)
+    clear k = neither w.brackets w.gaps k (ap (λ (n : ℕ). bit n k) none ∙ bit-none k)
 
 -- ---- line feeds in place of commas
 
@@ -71,7 +62,7 @@ at_most true a b c x y = x
 at_most false a b c x y = y
 
 module _ (xs : List ℕ) (base : ℕ) (inside : Bool) (w : Words) (room : base + 64 ≤ length xs) (told : IsTold (chunk base 64 xs) inside w) (n : Nest) (out : List ℕ) (begun : Bool) (end : ℕ)
-    (flat : IsFlat (chunk base 64 xs) inside w begun end) (one : n.height ≡ 1) (begins : n.begin ≤ length out) (opens : begun ≡ true → n.begin < length out) where
+    (flat : IsFlat (chunk base 64 xs) w begun end) (one : n.height ≡ 1) (begins : n.begin ≤ length out) (opens : begun ≡ true → n.begin < length out) where
   abbrev v : List ℕ
   v = chunk base 64 xs
 
@@ -119,18 +110,24 @@ module _ (xs : List ℕ) (base : ℕ) (inside : Bool) (w : Words) (room : base +
       ∙ ap (λ (l : List ℕ). out ++ l) (take_more (map fed v) k 0 (omega (arith, lt, all, long)) ∙ ap (λ (b : ℕ). take k (map fed v) ++ b ∷ []) (get_or-map fed v k 0 0 (omega (arith, lt, long))))
       ∙ sym (append_assoc out (take k (map fed v)) (fed (get_or v k 0) ∷ []))
 
+  abbrev place : ℕ → Place
+  place k = place_at inside w k
+
   -- over one byte
-  over : (k : ℕ) → k < 64 → (m : Bool) → comma_at k ≡ m → IsLed Between (nest_at k) (made_at k) (get_or v k 0 ∷ []) Between (nest_at (suc k)) (made_at (suc k))
+  over : (k : ℕ) → k < 64 → (m : Bool) → comma_at k ≡ m → IsLed (place k) (nest_at k) (made_at k) (get_or v k 0 ∷ []) (place (suc k)) (nest_at (suc k)) (made_at (suc k))
   over k lt true q =
       let b : ℕ = get_or v k 0 in
       let is : b ≡ 0x2c = eqb-true b 0x2c q in
+      let o = told.borders.outside k lt (flat.borders k lt ∙ q) in
       let next_begin : begin_at (suc k) ≡ length out + suc k = ap (λ (m : Bool). if m then length out + suc k else begin_at k) q in
       let count : length (made_at k) ≡ length out + k = made_long k (omega (arith, lt)) in
       let low : begin_at k < length out + k = begin_lt k lt q in
       let feed : made_at (suc k) ≡ made_at k ++ 0x0a ∷ [] = fed_more k lt ∙ ap (λ (m : Bool). made_at k ++ (if m then 0x0a else b) ∷ []) q in
-      subst (λ (l : List ℕ). IsLed Between (nest_at k) (made_at k) (b ∷ []) Between (nest_at (suc k)) l) (sym feed)
+      subst (λ (l : List ℕ). IsLed (place k) (nest_at k) (made_at k) (b ∷ []) (place (suc k)) (nest_at (suc k)) l) (sym feed)
+      (subst (λ (p : Place). IsLed p (nest_at k) (made_at k) (b ∷ []) (place (suc k)) (nest_at (suc k)) (made_at k ++ 0x0a ∷ [])) (sym o.0)
+      (subst (λ (p : Place). IsLed Between (nest_at k) (made_at k) (b ∷ []) p (nest_at (suc k)) (made_at k ++ 0x0a ∷ [])) (sym o.1)
       (subst (λ (c : ℕ). IsLed Between (nest_at k) (made_at k) (c ∷ []) Between (nest_at (suc k)) (made_at k ++ 0x0a ∷ [])) (sym is)
-      (led_border (nest_at k) (nest_at (suc k)) (made_at k) (omega (arith, low, count)) refl refl (omega (arith, next_begin, count))))
+      (led_border (nest_at k) (nest_at (suc k)) (made_at k) (omega (arith, low, count)) refl refl (omega (arith, next_begin, count))))))
   over k lt false q =
       let b : ℕ = get_or v k 0 in
       let same : get_or xs (base + k) 0 ≡ b = sym (get_or-chunk base 64 xs k 0 lt) in
@@ -138,22 +135,19 @@ module _ (xs : List ℕ) (base : ℕ) (inside : Bool) (w : Words) (room : base +
       let count : length (made_at k) ≡ length out + k = made_long k (omega (arith, lt)) in
       let low : begin_at k ≤ length out + k = begin_le k in
       let kept : made_at (suc k) ≡ made_at k ++ b ∷ [] = fed_more k lt ∙ ap (λ (m : Bool). made_at k ++ (if m then 0x0a else b) ∷ []) q in
-      let still : Still Between 1 b =
-      subst (λ (p : Place). Still p 1 b) (flat.outside k)
-      (subst (Still (place_at inside w k) 1) same (flat_still xs base inside w room told 1 k lt (flat.brackets k) (flat.gaps k) (flat.borders k lt ∙ q))) in
-      let on : next Between b ≡ Between =
-      ap (next Between) (sym same) ∙ ap (λ (p : Place). next p (get_or xs (base + k) 0)) (sym (flat.outside k)) ∙ goes xs base inside w room told k lt ∙ flat.outside (suc k) in
-      subst (λ (l : List ℕ). IsLed Between (nest_at k) (made_at k) (b ∷ []) Between (nest_at (suc k)) l) (sym kept)
-      (subst (λ (j : ℕ). IsLed Between (nest_at k) (made_at k) (b ∷ []) Between (record { begin = j; height = 1 }) (made_at k ++ b ∷ [])) (sym begin)
-      (led_stretch Between Between (nest_at k) 1 (made_at k) (b ∷ []) (omega (arith, low, count))
-      (subst (λ (h : ℕ). IsStretch Between 1 (b ∷ []) Between h) still.height
-      (subst (λ (p : Place). IsStretch Between 1 (b ∷ []) p (height_next Between 1 b)) on (one_stretch Between 1 b still.turn still.stays)))))
+      let still : Still (place k) 1 b = subst (Still (place k) 1) same (flat_still xs base inside w room told 1 k lt (flat.brackets k) (flat.gaps k) (flat.borders k lt ∙ q)) in
+      let on : next (place k) b ≡ place (suc k) = told.goes k lt in
+      subst (λ (l : List ℕ). IsLed (place k) (nest_at k) (made_at k) (b ∷ []) (place (suc k)) (nest_at (suc k)) l) (sym kept)
+      (subst (λ (j : ℕ). IsLed (place k) (nest_at k) (made_at k) (b ∷ []) (place (suc k)) (record { begin = j; height = 1 }) (made_at k ++ b ∷ [])) (sym begin)
+      (led_stretch (place k) (place (suc k)) (nest_at k) 1 (made_at k) (b ∷ []) (omega (arith, low, count))
+      (subst (λ (h : ℕ). IsStretch (place k) 1 (b ∷ []) (place (suc k)) h) still.height
+      (subst (λ (p : Place). IsStretch (place k) 1 (b ∷ []) p (height_next (place k) 1 b)) on (one_stretch (place k) 1 b still.turn still.stays)))))
 
-  up_to : (k : ℕ) → k ≤ 64 → IsLed Between (nest_at 0) out (slice_range xs base (base + k)) Between (nest_at k) (made_at k)
+  up_to : (k : ℕ) → k ≤ 64 → IsLed (place 0) (nest_at 0) out (slice_range xs base (base + k)) (place k) (nest_at k) (made_at k)
   up_to zero le =
       let start : base + 0 ≡ base = omega arith in
-      subst (λ (l : List ℕ). IsLed Between (nest_at 0) out (slice_range xs base (base + 0)) Between (nest_at 0) l) (sym (append-nil out))
-      (subst (λ (j : ℕ). IsLed Between (nest_at 0) out (slice_range xs base j) Between (nest_at 0) out) (sym start) (led_none_at Between (nest_at 0) out xs base))
+      subst (λ (l : List ℕ). IsLed (place 0) (nest_at 0) out (slice_range xs base (base + 0)) (place 0) (nest_at 0) l) (sym (append-nil out))
+      (subst (λ (j : ℕ). IsLed (place 0) (nest_at 0) out (slice_range xs base j) (place 0) (nest_at 0) out) (sym start) (led_none_at (place 0) (nest_at 0) out xs base))
   up_to (suc k) le =
       let lt : k < 64 = omega (arith, le) in
       let v_at : get_or xs (base + k) 0 ≡ get_or v k 0 = sym (get_or-chunk base 64 xs k 0 lt) in
@@ -164,7 +158,7 @@ module _ (xs : List ℕ) (base : ℕ) (inside : Bool) (w : Words) (room : base +
       ∙ ap (λ (l : List ℕ). l ++ get_or xs (base + k) 0 ∷ []) (slice-none xs (base + k))
       ∙ ap (λ (b : ℕ). b ∷ []) v_at in
       led_slice xs base (base + k) (base + suc k) (omega arith) (omega arith) (up_to k (omega (arith, le)))
-      (subst (λ (l : List ℕ). IsLed Between (nest_at k) (made_at k) l Between (nest_at (suc k)) (made_at (suc k))) (sym one_byte) (over k lt (comma_at k) refl))
+      (subst (λ (l : List ℕ). IsLed (place k) (nest_at k) (made_at k) l (place (suc k)) (nest_at (suc k)) (made_at (suc k))) (sym one_byte) (over k lt (comma_at k) refl))
 
   -- behind the last comma nothing begins
   begins_on : (d : ℕ) → end + d ≤ 64 → begin_at (end + d) ≡ begin_at end
@@ -192,9 +186,7 @@ module _ (xs : List ℕ) (base : ℕ) (inside : Bool) (w : Words) (room : base +
       ] in
       let count : length (map fed v) ≡ 64 = length-map v fed ∙ long in
       let whole : made_at 64 ≡ longer = ap (λ (l : List ℕ). out ++ l) (take_all 64 (map fed v) (omega (arith, count))) ∙ sym is in
-      subst (λ (p : Place). IsLed p n out (slice_range xs base (base + 64)) (place_at inside w 64) m longer) (sym (flat.outside 0))
-      (subst (λ (p : Place). IsLed Between n out (slice_range xs base (base + 64)) p m longer) (sym (flat.outside 64))
-      (subst (λ (h : ℕ). IsLed Between (record { begin = n.begin; height = h }) out (slice_range xs base (base + 64)) Between m longer) (sym one)
-      (subst (λ (h : ℕ). IsLed Between (nest_at 0) out (slice_range xs base (base + 64)) Between (record { begin = m.begin; height = h }) longer) (sym flat_too)
-      (subst (λ (j : ℕ). IsLed Between (nest_at 0) out (slice_range xs base (base + 64)) Between (record { begin = j; height = 1 }) longer) (sym last)
-      (subst (λ (l : List ℕ). IsLed Between (nest_at 0) out (slice_range xs base (base + 64)) Between (nest_at 64) l) whole (up_to 64 (omega arith)))))))
+      subst (λ (h : ℕ). IsLed (place 0) (record { begin = n.begin; height = h }) out (slice_range xs base (base + 64)) (place 64) m longer) (sym one)
+      (subst (λ (h : ℕ). IsLed (place 0) (nest_at 0) out (slice_range xs base (base + 64)) (place 64) (record { begin = m.begin; height = h }) longer) (sym flat_too)
+      (subst (λ (j : ℕ). IsLed (place 0) (nest_at 0) out (slice_range xs base (base + 64)) (place 64) (record { begin = j; height = 1 }) longer) (sym last)
+      (subst (λ (l : List ℕ). IsLed (place 0) (nest_at 0) out (slice_range xs base (base + 64)) (place 64) (nest_at 64) l) whole (up_to 64 (omega arith)))))

@@ -79,6 +79,12 @@ led_block {p} {q} {r} {s} {t} {n} {m} {l} {out} {mid} {longer} xs from end at lo
     (subst (λ (o : Place). IsLed o m mid (slice_range xs end (end + at)) t l longer) (sym first)
     (subst (λ (o : Place). IsLed r m mid (slice_range xs end (end + at)) o l longer) (sym last) y))
 
+-- and the blanks behind them
+pub led_block_past : {p q r s t : Place} {n m l : Nest} {out mid longer : List ℕ} (xs : List ℕ) (from end at past : ℕ) → from ≤ end → IsLed p n out (slice_range xs from end) q m mid → q ≡ r → t ≡ s
+    → IsLed r m mid (slice_range xs end (end + at)) s l longer → end + at ≤ past → IsPassed t (slice_range xs (end + at) past) → IsLed p n out (slice_range xs from past) t l longer
+led_block_past {p} {q} {r} {s} {t} {n} {m} {l} {out} {mid} {longer} xs from end at past low x first last y high passed =
+    led_slice xs from (end + at) past (omega (arith, low)) high (led_block xs from end at low x first last y) (led_passed t l longer (slice_range xs (end + at) past) passed)
+
 -- what was kept of the element is moved behind the lines, and back again
 pub led_joined : {q : Place} {n m : Nest} {longer : List ℕ} (p : Place) (lines part joined w : List ℕ) {after rest : List ℕ} → n.begin ≡ length lines → joined ≡ lines ++ part
     → IsLed p n joined w q m longer → after ≡ take m.begin longer → rest ≡ drop m.begin longer

@@ -16,3 +16,4 @@ mod Joins
 mod Leading
 mod Ending
 mod Feeding
+mod Deepening

@@ -92,16 +92,6 @@ fn gaps(block: u8x64, strings: u64) -> u64
     blanks(block) & !strings
 }
 
-/// Whether a line feed and a space after it stand among the 65 bytes from an offset on.
-#[inline(always)]
-pub(crate) fn is_indented(bytes: &[u8], at: usize) -> bool
-    requires { at + 64 < length bytes.now }
-{
-    let feeds = u8x64::from_slice(&bytes[at..]).simd_eq(u8x64::splat(b'\n'));
-    let spaces = u8x64::from_slice(&bytes[at + 1..]).simd_eq(u8x64::splat(b' '));
-    (feeds & spaces).to_bitmask() != 0
-}
-
 /// Which bytes are escaped, by the backslashes: every second one of a run, and the byte after a run of odd length.
 /// Taken from the odd places, a run borrows up to its end. Callers look at each bit once more.
 #[inline(always)]

@@ -22,7 +22,7 @@ use crate::stand::{LineStand, Stage};
 use crate::target::Target;
 use crate::token::tokens_of;
 use crate::way::stand_at_start;
-use jx_run::{OutcomeRun, Reader, Refusal, Settings, Verdict, reader_is_grammar};
+use jx_run::{OutcomeRun, Reader, Refusal, Settings, Verdict, reader_and_grammar};
 use std::alloc::{AllocError, Global};
 use std::marker::Model;
 
@@ -107,7 +107,7 @@ impl Each {
         Each::with_content(alloc, settings, pointer, LineContent::Alone)
     }
 
-    /// The same, by what a line has.
+    /// One that has taken no byte, by a pointer and by what a line has. Its settings' names are ignored.
     pub fn with_content(
         alloc: Global,
         settings: &Settings,
@@ -120,7 +120,7 @@ impl Each {
         ensures taken { IfOk result (HasTakenBy content pointer.now [] []) }
         ensures ready { IfOk result (λ each. each.ready ≡ []) }
     {
-        reader_is_grammar();
+        reader_and_grammar();
         let path = tokens_of(alloc, pointer.as_bytes())?;
         Ok(Each {
             reader: Reader::new(alloc, settings, 0),
@@ -145,7 +145,7 @@ impl Each {
         ensures err { OnErr result (HasFailed self.new) }
         ensures failed { HasFailed self.old → IsErr result }
     {
-        reader_is_grammar();
+        reader_and_grammar();
         let Some(stand) = self.stand else {
             return Err(AllocError);
         };
@@ -184,7 +184,7 @@ impl Each {
         ensures err { OnErr result (HasFailed self.new) }
         ensures failed { HasFailed self.old → IsErr result }
     {
-        reader_is_grammar();
+        reader_and_grammar();
         let Some(stand) = self.stand else {
             return Err(AllocError);
         };

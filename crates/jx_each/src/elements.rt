@@ -1,21 +1,23 @@
 // Elements of an array, written while their bytes are walked over: of each block of 64 what stands between white space
 // is copied at once, and commas after elements become line feeds.
-ghost use Rattle.std.specs.Prelude.{◌≡◌, ◌+◌, ◌-◌, ◌<◌, ◌≤◌, ◌^◌, ℕ, false, true, [], ◌++◌, ◌⊎◌, IfOk, IfSome, IsTrue, OnOk, bit_or, drop, length, nat_lt, slice_range, take};
+ghost use Rattle.std.specs.Prelude.{◌≡◌, ◌+◌, ◌-◌, ◌<◌, ◌≤◌, ◌^◌, ℕ, false, true, [], ◌++◌, ◌⊎◌, IfOk, IfSome, OnOk, drop, length, nat_lt, slice_range, take};
 ghost use Rattle.std.specs.Simd.Lanes.{chunk};
 ghost use Rattle.jx_compact.specs.declared.place.Place.TheVariants.{Between};
 ghost use Rattle.jx_lex.specs.inside.Bits.{bit};
 ghost use Rattle.jx_each.specs.Machine.{Aim, run};
 ghost use Rattle.jx_each.specs.declared.stand.Stage.TheVariants.{Array};
 ghost use Rattle.jx_each.specs.inside.Blocks.{IsTold, place_at};
+ghost use Rattle.jx_each.specs.inside.Deep.{IsDeep};
 ghost use Rattle.jx_each.specs.inside.Flat.{IsFlat};
-ghost use Rattle.jx_each.specs.inside.Stretches.{IsLed, spot};
+ghost use Rattle.jx_each.specs.inside.Stretches.{IsLed, IsPassed, spot};
 
 use crate::blocks::{BLOCK, Words, is_set, next_clear, next_set, words_of};
 use crate::copies::push_stretch;
 use crate::flat::{commas_end, with_feeds};
 use crate::nest::{Nest, pass_stop};
 use crate::places::{inside_of, place_of};
-use crate::stretch::Stretch;
+use crate::stand::height_next;
+use crate::stretch::{Stretch, blanks_from};
 use jx_compact::Place;
 use std::alloc::AllocError;
 use std::mem;
@@ -150,7 +152,7 @@ fn next_gap(words: Words, at: usize) -> usize
     next_set(words.gaps, at).min(words.len)
 }
 
-/// The end of the white space of a block that begin at a byte, where it is one, or else that byte.
+/// The end of the white space of a block that begins at a byte, where there is some, or else that byte.
 #[inline(always)]
 fn past_gap(words: Words, at: usize) -> usize
     requires within { (at ≤ words.len) × (words.len ≤ 64) }
@@ -220,6 +222,126 @@ fn squeeze(view: View, made: &mut [u8], start: usize, bytes: &[u8], nest: Nest) 
     }
 }
 
+/// How many containers are open after a block, where two or more are open before each of its bytes and after it. None where
+/// it is another block.
+#[inline(always)]
+fn deep_height(view: View, bytes: &[u8], height: usize) -> Option<usize>
+    requires room { view.base + 64 ≤ length bytes.now }
+    requires told { IsTold (chunk view.base 64 bytes.now) view.inside view.words }
+    requires whole { view.words.len ≡ 64 }
+    requires high { 1 < height }
+    requires fits { height + 64 < 2 ^ 64 }
+    ensures bounds { IfSome result (λ high. (1 ≤ high) × (high ≤ height + 64)) }
+    ensures deep { IfSome result (IsDeep (chunk view.base 64 bytes.now) view.inside view.words height) }
+{
+    let mut high = height;
+    let mut at = 0;
+    while at < BLOCK {
+        let stop = next_set(view.words.brackets, at);
+        if stop == BLOCK {
+            return Some(high);
+        }
+        high = height_next(Place::Between, high, bytes[view.base + stop]);
+        if high <= 1 {
+            return None;
+        }
+        at = stop + 1;
+    }
+    Some(high)
+}
+
+/// The end of the places whose bits are set, of which one is the first, or that place where it is the end.
+#[inline(always)]
+fn past_set(bits: u64, at: usize) -> usize
+    requires within { at ≤ 64 }
+    requires set { at < 64 → bit bits at ≡ true }
+    ensures bounds { (at ≤ result) × (result ≤ 64) }
+    ensures past { at < 64 → at < result }
+    ensures all { (k : ℕ) → at ≤ k → k < result → bit bits k ≡ true }
+{
+    if at < BLOCK { next_clear(bits, at) } else { at }
+}
+
+/// Puts what stays of a block after so many bytes that were made, and counts it with them, where no element ends in it and
+/// so many containers are open after it.
+#[inline(always)]
+fn pack(
+    view: View,
+    made: &mut [u8],
+    start: usize,
+    bytes: &[u8],
+    nest: Nest,
+    high: usize,
+) -> Squeezed
+    requires room { view.base + 128 ≤ length bytes.now }
+    requires space { start + 128 ≤ length made.old }
+    requires told { IsTold (chunk view.base 64 bytes.now) view.inside view.words }
+    requires begin { nest.begin ≤ start }
+    requires deep { IsDeep (chunk view.base 64 bytes.now) view.inside view.words nest.height high }
+    ensures at { result.reach.at ≡ 64 }
+    ensures length { length made.new ≡ length made.old }
+    ensures within { result.len ≤ length made.new }
+    ensures begin { result.reach.nest.begin ≤ result.len }
+    ensures high { result.reach.nest.height ≡ high }
+    ensures led { IsLed (place_at view.inside view.words 0) nest (take start made.old) (slice_range bytes.now view.base (view.base + result.reach.at)) (place_at view.inside view.words result.reach.at) result.reach.nest (take result.len made.new) }
+{
+    let mut len = start;
+    let mut at = 0;
+    while at < BLOCK {
+        let to = next_set(view.words.gaps, at);
+        put_block(made, len, bytes, view.base + at);
+        len += to - at;
+        at = past_set(view.words.gaps, to);
+    }
+    Squeezed {
+        len,
+        reach: Reach {
+            at: BLOCK,
+            nest: Nest {
+                begin: nest.begin,
+                height: high,
+            },
+        },
+    }
+}
+
+/// Appends what stays of a block in which no element ends, and after which so many containers are open.
+#[inline(always)]
+fn push_packed(
+    view: View,
+    lines: &mut Vec<u8>,
+    bytes: &[u8],
+    nest: Nest,
+    high: usize,
+) -> Result<Reach, AllocError>
+    requires room { view.base + 128 ≤ length bytes.now }
+    requires told { IsTold (chunk view.base 64 bytes.now) view.inside view.words }
+    requires whole { view.words.len ≡ 64 }
+    requires begin { nest.begin ≤ length lines.old.items }
+    requires bounds { (1 ≤ high) × (high ≤ nest.height + 64) }
+    requires deep { IsDeep (chunk view.base 64 bytes.now) view.inside view.words nest.height high }
+    ensures bounds { IfOk result (λ reach. reach.at ≡ view.words.len) }
+    ensures begin { IfOk result (λ reach. reach.nest.begin ≤ length lines.new.items) }
+    ensures high { IfOk result (λ reach. (1 ≤ reach.nest.height) × (reach.nest.height ≤ nest.height + reach.at)) }
+    ensures led { IfOk result (λ reach. IsLed (place_at view.inside view.words 0) nest lines.old.items (slice_range bytes.now view.base (view.base + reach.at)) (place_at view.inside view.words reach.at) reach.nest lines.new.items) }
+{
+    if view.words.gaps == 0 {
+        push_stretch(lines, true, bytes, view.base, view.base + BLOCK)?;
+        return Ok(Reach {
+            at: BLOCK,
+            nest: Nest {
+                begin: nest.begin,
+                height: high,
+            },
+        });
+    }
+    let start = lines.len();
+    lines.extend_from_slice(&bytes[view.base..view.base + 2 * BLOCK])?;
+    let squeezed = pack(view, lines, start, bytes, nest, high);
+    lines.truncate(squeezed.len);
+    Ok(squeezed.reach)
+}
+
 /// Walks over the bytes of a block that are looked at, or up to one that ends the array, where there is white space
 /// among them.
 #[inline(always)]
@@ -242,16 +364,6 @@ fn walk_gaps(view: View, lines: &mut Vec<u8>, bytes: &[u8], nest: Nest) -> Resul
     Ok(squeezed.reach)
 }
 
-/// Whether no byte of a block opens or closes a container or is white space, outside of strings, and none ends an
-/// element.
-#[inline(always)]
-fn is_quiet(words: Words, height: usize) -> bool
-    ensures high { IsTrue result → 1 < height }
-    ensures none { IsTrue result → bit_or words.brackets words.gaps ≡ 0 }
-{
-    height > 1 && words.brackets | words.gaps == 0
-}
-
 /// Appends a block whose commas alone do anything, the last one of which is before a place, and makes line feeds of
 /// them.
 #[inline(always)]
@@ -264,7 +376,7 @@ fn push_flat(
 ) -> Result<Reach, AllocError>
     requires room { view.base + 128 ≤ length bytes.now }
     requires told { IsTold (chunk view.base 64 bytes.now) view.inside view.words }
-    requires flat { IsFlat (chunk view.base 64 bytes.now) view.inside view.words (nat_lt nest.begin (length lines.old.items)) end }
+    requires flat { IsFlat (chunk view.base 64 bytes.now) view.words (nat_lt nest.begin (length lines.old.items)) end }
     requires begin { nest.begin ≤ length lines.old.items }
     requires high { nest.height ≡ 1 }
     ensures bounds { IfOk result (λ reach. reach.at ≡ view.words.len) }
@@ -290,19 +402,17 @@ fn push_flat(
 #[inline(always)]
 fn flat_block(view: View, lines: &[u8], bytes: &[u8], nest: Nest) -> Option<usize>
     requires room { view.base + 128 ≤ length bytes.now }
-    requires told { IsTold (chunk view.base 64 bytes.now) view.inside view.words }
     ensures high { IfSome result (λ _. nest.height ≡ 1) }
-    ensures flat { IfSome result (IsFlat (chunk view.base 64 bytes.now) view.inside view.words (nat_lt nest.begin (length lines.now))) }
+    ensures flat { IfSome result (IsFlat (chunk view.base 64 bytes.now) view.words (nat_lt nest.begin (length lines.now))) }
 {
     if nest.height != 1 {
         return None;
     }
     let block = u8x64::from_slice(&bytes[view.base..]);
-    commas_end(view.words, view.inside, block, nest.begin < lines.len())
+    commas_end(view.words, block, nest.begin < lines.len())
 }
 
-/// Walks over the bytes of a block that are looked at, or up to one that ends the array. Where none of them does anything, they
-/// are copied.
+/// Walks over the bytes of a block that are looked at, or up to one that ends the array.
 #[inline(always)]
 fn walk_block(
     view: View,
@@ -321,12 +431,10 @@ fn walk_block(
     ensures outside { IfOk result (λ reach. reach.at < view.words.len → place_at view.inside view.words reach.at ≡ Between) }
     ensures led { IfOk result (λ reach. IsLed (place_at view.inside view.words 0) nest lines.old.items (slice_range bytes.now view.base (view.base + reach.at)) (place_at view.inside view.words reach.at) reach.nest lines.new.items) }
 {
-    if is_quiet(view.words, nest.height) {
-        push_stretch(lines, true, bytes, view.base, view.base + view.words.len)?;
-        return Ok(Reach {
-            at: view.words.len,
-            nest,
-        });
+    if nest.height > 1 && view.words.len == BLOCK {
+        if let Some(high) = deep_height(view, bytes, nest.height) {
+            return push_packed(view, lines, bytes, nest, high);
+        }
     }
     if let Some(end) = flat_block(view, lines, bytes, nest) {
         return push_flat(view, lines, bytes, end, nest);
@@ -349,6 +457,20 @@ fn place_behind(words: Words, inside: bool, at: usize) -> Place
         Place::Between
     } else {
         place_of(is_set(words.strings, words.len - 1))
+    }
+}
+
+/// The offset after the white space from there on, where a block ends with some.
+#[inline(always)]
+fn past_blanks(words: Words, place: Place, bytes: &[u8], from: usize) -> usize
+    requires within { from ≤ length bytes.now }
+    ensures bounds { (from ≤ result) × (result ≤ length bytes.now) }
+    ensures passed { IsPassed place (slice_range bytes.now from result) }
+{
+    if is_set(words.gaps, 63) {
+        blanks_from(place, bytes, from)
+    } else {
+        from
     }
 }
 
@@ -379,8 +501,9 @@ fn walk_blocks(lines: &mut Vec<u8>, bytes: &[u8], from: Front) -> Result<Front, 
         };
         let reach = walk_block(view, lines, bytes, front.nest)?;
         let place = place_behind(words, inside, reach.at);
+        let end = past_blanks(words, place, bytes, front.end + reach.at);
         front = Front {
-            end: front.end + reach.at,
+            end,
             place,
             nest: reach.nest,
         };

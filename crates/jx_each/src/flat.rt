@@ -1,9 +1,9 @@
-// Blocks of an array in which numbers and literals stand close: no string, no bracket and no white space. Its commas
-// become line feeds at once.
+// Blocks of an array in which scalars stand close: outside of strings no bracket and no white space, and no comma inside
+// of one. Its commas become line feeds at once.
 ghost use Rattle.std.specs.Prelude.{◌≡◌, ◌-◌, ◌<◌, ◌≤◌, ◌&&◌, ℕ, IfSome, IsTrue, bit_or, false, map, not, true};
 ghost use Rattle.std.specs.Simd.Lanes.{mask_l};
 ghost use Rattle.jx_lex.specs.inside.Bits.{bit};
-ghost use Rattle.jx_each.specs.inside.Blocks.{IsTold, in_at};
+ghost use Rattle.jx_each.specs.inside.Blocks.{in_at};
 ghost use Rattle.jx_each.specs.inside.Flat.{IsFlat, fed, is_comma};
 
 use crate::blocks::{BLOCK, Words, is_set, lowest, next_set};
@@ -17,18 +17,14 @@ fn commas_of(block: u8x64) -> u64
     block.simd_eq(u8x64::splat(b',')).to_bitmask()
 }
 
-/// Whether all of a block stands outside of strings, and its commas alone do anything there.
+/// Whether all commas of a block stand outside of strings, and they alone do anything there.
 #[inline(always)]
-fn is_plain(words: Words, inside: bool, commas: u64) -> bool
-    ensures outside { IsTrue result → inside ≡ false }
+fn is_plain(words: Words, commas: u64) -> bool
     ensures whole { IsTrue result → words.len ≡ 64 }
     ensures commas { IsTrue result → words.borders ≡ commas }
-    ensures none { IsTrue result → bit_or (bit_or (bit_or words.strings words.escapes) words.brackets) words.gaps ≡ 0 }
+    ensures none { IsTrue result → bit_or words.brackets words.gaps ≡ 0 }
 {
-    !inside
-        && words.len == BLOCK
-        && words.borders == commas
-        && words.strings | words.escapes | words.brackets | words.gaps == 0
+    words.len == BLOCK && words.borders == commas && words.brackets | words.gaps == 0
 }
 
 /// Whether no comma follows another one, and none is the first byte where no element is before the block.
@@ -55,12 +51,11 @@ fn is_end(commas: u64, end: usize) -> bool
 /// How many bytes are before and at the last comma, in a block whose commas alone do anything, and each of them ends an
 /// element. None where it is another block. `begun` says whether an element is before it.
 #[inline(always)]
-pub(crate) fn commas_end(words: Words, inside: bool, block: u8x64, begun: bool) -> Option<usize>
-    requires { IsTold block inside words }
-    ensures { IfSome result (IsFlat block inside words begun) }
+pub(crate) fn commas_end(words: Words, block: u8x64, begun: bool) -> Option<usize>
+    ensures { IfSome result (IsFlat block words begun) }
 {
     let commas = commas_of(block);
-    if !is_plain(words, inside, commas) || !are_apart(commas, begun) {
+    if !is_plain(words, commas) || !are_apart(commas, begun) {
         return None;
     }
     // The place is looked at once more, so that all that follows rests on this alone.

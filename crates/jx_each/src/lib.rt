@@ -26,7 +26,8 @@ mod way;
 pub use content::LineContent;
 pub use each::Each;
 pub use laws::{
-    all_of_a_text_is_due, due_grows, due_is_one, nothing_is_due_of_no_byte, what_is_taken_is_due,
+    lines_due_of_a_prefix, lines_due_of_a_text, lines_due_of_no_byte, lines_taken_and_waiting,
+    unique_lines_due,
 };
 pub use section::Section;
 pub use stand::{LineStand, Stage};

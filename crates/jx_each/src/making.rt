@@ -6,7 +6,7 @@ ghost use Rattle.jx_each.specs.Machine.{Aim, line_of, lines_next, lines_with, pa
 ghost use Rattle.jx_each.specs.inside.Paths.{aim_of, count_in};
 ghost use Rattle.jx_each.specs.inside.Stretches.{spot, spot_in_array};
 
-use crate::blocks::{BLOCK, is_indented};
+use crate::blocks::BLOCK;
 use crate::copies::push_stretch;
 use crate::deep::push_deep;
 use crate::elements::make_elements;
@@ -239,17 +239,12 @@ fn is_in_elements(stand: LineStand) -> bool
     is_array(stand.stage) && stand.takes && stand.height >= 1
 }
 
-/// Whether the next bytes are many and no line among them is indented. Where white space cut most of what is copied,
-/// elements are made one by one in less time.
+/// Whether the next bytes are so many that it takes less time to move what is kept.
 #[inline(always)]
-fn is_compact(bytes: &[u8], at: usize) -> bool
+fn is_long(bytes: &[u8], at: usize) -> bool
     requires { at ≤ length bytes.now }
 {
     bytes.len() - at > 4 * BLOCK
-        && !is_indented(bytes, at)
-        && !is_indented(bytes, at + BLOCK)
-        && !is_indented(bytes, at + 2 * BLOCK)
-        && !is_indented(bytes, at + 3 * BLOCK)
 }
 
 /// Takes in blocks from a byte on that stands there, as far as that takes less time, and answers where the
@@ -271,14 +266,14 @@ fn make_blocks(
         ≡ spot deep.place deep.height stand.stage stand.takes lines.new.items part.new.items) }
 {
     let is_short = lines.is_empty() || part.len() <= bytes.len();
-    if is_in_elements(stand) && is_short && is_compact(bytes, at) {
+    if is_in_elements(stand) && is_short && is_long(bytes, at) {
         make_elements(lines, part, stand.place, stand.height, bytes, at)
     } else {
         push_deep(part, stand.place, stand.height, stand.takes, bytes, at)
     }
 }
 
-/// The same stand at another place and height.
+/// The stand at another place and height.
 #[inline(always)]
 fn moved(stand: LineStand, place: Place, height: usize) -> LineStand
     ensures { result ≡ record { place = place; height = height; stage = stand.stage; takes = stand.takes } }

@@ -25,7 +25,7 @@ struct Chars;
 /// The bytes between tokens in two containers or more, but for white space, quotation marks and brackets.
 struct Deep;
 
-/// The same without commas and colons.
+/// The bytes between tokens in two containers or more, but for commas and colons too.
 struct Flat;
 
 /// The white space that may stand between tokens (RFC 8259, section 2).
@@ -99,7 +99,7 @@ impl ByteSet for Blanks {
     }
 }
 
-/// Bit k says that the byte k places behind `i` is not in the set, for the 16 bytes from `i` on.
+/// Bit k says that the byte k places after `i` is not in the set, for the 16 bytes from `i` on.
 #[inline(always)]
 fn marks<R: ByteSet>(bytes: &[u8], i: usize) -> u64
     requires { i + 16 ≤ length bytes.now }
@@ -174,7 +174,7 @@ pub(crate) fn deep_end(bytes: &[u8], from: usize) -> usize
     run_end::<Deep>(bytes, from)
 }
 
-/// The same, of a comma or a colon too.
+/// The first offset from `from` on of a bracket, a comma, a colon, or of a byte up to the quotation mark, or the end.
 #[inline(always)]
 pub(crate) fn flat_end(bytes: &[u8], from: usize) -> usize
     requires { from ≤ length bytes.now }

@@ -254,7 +254,7 @@ fn height_in(stage: Stage, height: usize) -> usize
     }
 }
 
-/// The same after a byte that does this.
+/// A height after a byte that does this.
 fn height_by(turn: Turn, stage: Stage, height: usize) -> usize
     ensures value { result ≡ height_by turn stage height }
     ensures most { result ≤ height }

@@ -7,7 +7,7 @@ use Rattle.jx_run.specs.declared.texts.settings.Front.TheVariants.{Skip}
 use Rattle.jx_run.specs.declared.texts.settings.Settings.{Settings}
 use Rattle.jx_edit.specs.declared.reading.standing.Stand.{Stand}
 
--- the bytes behind what stands in front, up to an offset, were read without a fault, and the reading came to this
+-- the bytes after an ignored byte order mark, up to an offset, were read without a fault, and the reading is here
 pub record StandsBefore (settings : Settings) (bytes : List ℕ) (at : ℕ) (s : Stand) : Type 0 where
   pub from : ℕ
   pub begins : front_of settings.mark bytes ≡ Skip from

@@ -17,7 +17,7 @@ use crate::positions::encoding::Encoding;
 use crate::positions::position::{Position, Reached, behind, reach};
 use crate::reading::place::Place;
 use crate::reading::standing::Stand;
-use jx_run::{Front, NameRule, Settings, Verdict, front, fronts_decide_where_texts_begin};
+use jx_run::{Front, NameRule, Settings, Verdict, beginning_of_a_text_by_its_front, front};
 use std::alloc::{AllocError, Global};
 use std::marker::Model;
 use std::thread::Threads;
@@ -29,7 +29,7 @@ const BYTE_ORDER_MARK: [u8; 3] = [0xEF, 0xBB, 0xBF];
 #[derive(Drop)]
 pub struct Document {
     settings: Settings,
-    // what stands in front: a mark that is ignored is in none of the chunks
+    // an ignored byte order mark, which is in none of the chunks
     front: Front,
     rest: Chunked,
 }
@@ -74,7 +74,7 @@ impl Document {
         Document::made(alloc, bytes, settings, None)
     }
 
-    /// The same, and keeps what finds positions by this encoding fast. By another one they are found too.
+    /// A document of these bytes, which finds positions by this encoding fast. By another one they are found too.
     pub fn counted(
         alloc: Global,
         bytes: &[u8],
@@ -89,7 +89,7 @@ impl Document {
         Document::made(alloc, bytes, settings, Some(encoding))
     }
 
-    /// What both make: a document that keeps counts by one encoding, if any.
+    /// A document of these bytes that keeps counts by one encoding, if any.
     fn made(
         alloc: Global,
         bytes: &[u8],
@@ -113,7 +113,7 @@ impl Document {
         })
     }
 
-    /// What `of` makes, where so many workers each make a part of it, in a thread of its own where one can be made. It has the
+    /// A document as `of` makes it, where so many workers each make a part of it, in a thread of its own where one can be made. It has the
     /// same bytes for every number of workers.
     pub fn of_by<R: Threads + Sync>(
         rt: &R,
@@ -139,7 +139,7 @@ impl Document {
         })
     }
 
-    /// How many bytes it has, with those of a mark in front.
+    /// The number of its bytes, with those of a byte order mark in front.
     pub fn len(&self) -> usize
         ensures { result ≡ length self.now.bytes }
     {
@@ -153,8 +153,8 @@ impl Document {
         self.len() == 0
     }
 
-    /// The bytes from an offset on, as far as they stand in one piece: at least one, or none where the offset is the end or
-    /// lies behind it. Nothing is copied.
+    /// The bytes from an offset on, up to the end of a chunk: at least one, or none where the offset is the end or
+    /// lies after it. Nothing is copied.
     pub fn chunk_at(&self, offset: usize) -> &[u8]
         ensures part { result.now ≡ slice_range self.now.bytes offset (offset + length result.now) }
         ensures some { offset < length self.now.bytes → 0 < length result.now }
@@ -166,7 +166,7 @@ impl Document {
         self.rest.chunk_at(offset - mark.len())
     }
 
-    /// All bytes, piece by piece. Nothing is copied.
+    /// All bytes, chunk by chunk. Nothing is copied.
     pub fn chunks(&self) -> Chunks<'_>
         ensures { concat result ≡ self.now.bytes }
     {
@@ -174,7 +174,7 @@ impl Document {
         self.rest.chunks_behind(mark)
     }
 
-    /// The position of an offset, or of the end where the offset lies behind it (Language Server Protocol 3.17, "Position").
+    /// The position of an offset, or of the end where the offset lies after it (Language Server Protocol 3.17, "Position").
     pub fn position_of(&self, offset: usize, encoding: Encoding) -> Position
         ensures { result ≡ position_at encoding self.now.bytes offset }
     {
@@ -200,7 +200,7 @@ impl Document {
         count
     }
 
-    /// How many bytes come before the next position is behind one.
+    /// How many bytes come before the next position is after one.
     fn reach(&self, position: Position, encoding: Encoding) -> Reached
         ensures count { result.count ≡ reach encoding first position self.now.bytes }
         ensures within { result.count ≤ length self.now.bytes }
@@ -235,7 +235,7 @@ impl Document {
         }
     }
 
-    /// What it was made with.
+    /// The settings that it was made with.
     pub fn settings(&self) -> Settings
         ensures { result ≡ self.now.settings }
     {
@@ -248,7 +248,7 @@ impl Document {
         ensures same { self.new ≡ self.old }
         ensures verdict { IfOk result (JudgedBy self.old.settings 0 self.old.bytes) }
     {
-        fronts_decide_where_texts_begin();
+        beginning_of_a_text_by_its_front();
         match self.front {
             Front::Skip(count) => {
                 let verdict = self.rest.verdict(count)?;
@@ -258,8 +258,8 @@ impl Document {
         }
     }
 
-    /// Where a reading of its text by its settings stands before an offset; none where the bytes before it begin no text. It is
-    /// known behind a verdict, which reads the text: before it may be none. It reads the bytes of one chunk.
+    /// Where a reading of its text by its settings is at an offset; none where the bytes before it do not begin a text. It is
+    /// known after a verdict, which reads the text: before it may be none. It reads the bytes of one chunk.
     pub fn stand(&self, at: usize) -> Result<Option<Stand>, AllocError>
         ensures { IfOk result (λ found. IfSome found (StandsBefore self.now.settings self.now.bytes at)) }
     {
@@ -316,7 +316,7 @@ impl Document {
         Ok(())
     }
 
-    /// The same at a place so near to the start that what stands in front may change.
+    /// Makes an edit at a place so near to the start that a byte order mark in front may change.
     fn edit_front(&mut self, start: usize, end: usize, replacement: &[u8]) -> Result<(), AllocError>
         requires order { start ≤ end }
         requires within { end ≤ length self.old.bytes }
@@ -325,7 +325,7 @@ impl Document {
         ensures ok { OnOk result (self.new.bytes ≡ edited start end replacement.now self.old.bytes) }
         ensures err { OnErr result (self.new ≡ self.old) }
     {
-        // Behind three bytes nothing changes what stands in front.
+        // After three bytes nothing changes what stands in front.
         let far = end.saturating_add(3).min(self.len());
         let before = self.bytes_between(0, start)?;
         let behind = self.bytes_between(end, far)?;

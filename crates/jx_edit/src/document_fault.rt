@@ -7,13 +7,13 @@ use thiserror::Error;
 /// Why a document was not made, not edited, or its bytes not handed out.
 #[derive(Clone, Copy, Debug, PartialEq, Eq, Error)]
 pub enum DocumentFault {
-    /// The range ends before it starts, or behind the last byte.
+    /// The range ends before it starts, or after the last byte.
     #[error("out of bounds")]
     OutOfBounds,
     /// The settings ask for unique names, and a document keeps no names.
     #[error("a document keeps no names")]
     UniqueNames,
-    /// A growth of memory was refused.
+    /// An allocation failed.
     #[error("out of memory")]
     Memory,
 }

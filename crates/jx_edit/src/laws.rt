@@ -8,8 +8,8 @@ ghost use Rattle.jx_edit.specs.Positions.{first, offset_at, position_at, reach, 
 /// The position of an offset leads back to it where the byte there adds units: where a character begins, and at each byte
 /// where bytes are counted.
 ///
-/// The bytes before a position are the most whose position is not behind it.
-pub fn positions_lead_back()
+/// The bytes before a position are the most whose position is not after it.
+pub fn position_round_trip()
     ensures back { (e : Encoding) (bytes : List ℕ) (offset : ℕ) → offset ≤ length bytes → 0 < units e (slice_index bytes offset) → offset_at e bytes (position_at e bytes offset) ≡ offset }
     ensures last { (e : Encoding) (bytes : List ℕ) (position : Position) → IsLast e first position bytes (reach e first position bytes) }
 {}

@@ -11,7 +11,7 @@ mod reading;
 pub use chunking::chunks::Chunks;
 pub use document::Document;
 pub use document_fault::DocumentFault;
-pub use laws::positions_lead_back;
+pub use laws::position_round_trip;
 pub use positions::encoding::Encoding;
 pub use positions::position::Position;
 pub use reading::standing::Stand;

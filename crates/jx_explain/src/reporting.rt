@@ -7,7 +7,7 @@ ghost use Rattle.jx_report.specs.Reports.{HasTooManyPieces};
 ghost use Rattle.jx_explain.specs.Explained.{Explains, exit_by};
 
 use crate::explain::{Form, explained};
-use jx_answer::{Balance, any_names_change_nothing, read_batch, verdict_of_text};
+use jx_answer::{Balance, read_batch, verdict_of_text, verdict_without_a_rule_on_names};
 use jx_claim::Cutting;
 use jx_crew::{Crew, Gate};
 use jx_ends::{Exit, ReportFault, Sink, Source, read_to_end, write_whole};
@@ -54,7 +54,7 @@ fn verdict_on<R: Threads + Wait + Sync, G: Gate + Sync>(
     requires piece { 1 ≤ piece }
     ensures { IfOk result (IsVerdictBy settings.now text.now) }
 {
-    any_names_change_nothing();
+    verdict_without_a_rule_on_names();
     match settings.names {
         NameRule::Any => verdict_whatever_names(crew, text, settings, piece),
         NameRule::Unique => verdict_of_text(crew, text, cutting, settings),

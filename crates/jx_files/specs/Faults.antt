@@ -1,4 +1,4 @@
--- What is told of a fault.
+-- The messages of faults.
 use Rattle.std.specs.Prelude.{ℕ, List, [], ◌∷◌, ◌++◌, ◌==◌, codes, if◌then◌else◌}
 use Rattle.jx_files.specs.declared.file_fault.FileFault.{FileFault}
 use Rattle.jx_files.specs.declared.file_fault.FileFault.TheVariants.{Folder, Open, Read, Memory, Pieces, NoPointer, PointerOrFile}
@@ -6,7 +6,7 @@ use Rattle.jx_files.specs.declared.reason.Reason.{Reason}
 use Rattle.jx_files.specs.declared.reason.Reason.TheVariants as reason
 use Rattle.jx_files.specs.Naming.{shown}
 
--- the error numbers of Linux whose reason is told
+-- the error numbers of Linux whose reason has a message
 abbrev pub reasons : List (ℕ × Reason)
 reasons =
     (1, reason.NotPermitted) ∷ (2, reason.NoFile) ∷ (5, reason.InputOutput) ∷ (6, reason.NoDevice) ∷ (13, reason.Denied) ∷ (16, reason.Busy)
@@ -35,7 +35,7 @@ fault_reason (Open why) = why
 fault_reason (Read why) = why
 fault_reason _ = reason.Other
 
--- what is told of it behind the head
+-- the rest of its message
 abbrev pub fault_tail : Reason → List ℕ
 fault_tail reason.NotPermitted = codes ": Operation not permitted"
 fault_tail reason.NoFile = codes ": No such file or directory"

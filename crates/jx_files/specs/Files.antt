@@ -1,4 +1,4 @@
--- What reports on several inputs write and tell.
+-- What reports on several inputs write, and the messages on their faults.
 use Rattle.std.specs.Prelude.{◌≡◌, ℕ, ◌≤◌, List, [], ◌∷◌, ◌++◌, codes, length, Bool, true, false, Option, Result, Ok, Err}
 use Rattle.std.specs.Io.KnownBytes.{Appends}
 use Rattle.jx_task.specs.declared.command.Command.{Command}
@@ -18,14 +18,14 @@ use Rattle.jx_files.specs.Faults.{fault_line}
 use Rattle.jx_files.specs.Naming.{named, shown}
 use Rattle.jx_files.specs.Status.{greatest, status_of}
 
--- what is written for an input behind its name
+-- what is written for an input after its name
 abbrev pub part : List ℕ → List ℕ → List ℕ
 part word output = named (shown word ++ codes ": ") output
 
 -- how inputs are opened and read
 pub record Ways : Type 1 where
   pub Input : Type 0
-  -- what the opening of a word may come to
+  -- what opening an argument may give
   pub opens : List ℕ → Result Input FileFault → Type 0
   -- why the last read of an input failed
   pub why : Input → Reason
@@ -52,7 +52,7 @@ pub data IsFaultOf (ways : Ways) (command : Command) (input : ways.Input) : File
   too_long : (left : ways.Input) → HasTooManyPieces command (ways.remaining input) (ways.remaining left) → IsFaultOf ways command input Pieces
   no_memory : IsFaultOf ways command input Memory
 
--- why there is no answer for a word. Want of memory is told of none that names nothing to be read
+-- why there is no answer for an argument. Out of memory is no fault of one that names nothing to be read
 pub data IsFaultAt (ways : Ways) (command : Command) (word : List ℕ) : FileFault → Type 0 where
   not_opened : (fault : FileFault) → ways.opens word (Err fault) → IsFaultAt ways command word fault
   not_answered : (fault : FileFault) (input : ways.Input) → ways.opens word (Ok input) → IsFaultOf ways command input fault → IsFaultAt ways command word fault
@@ -69,19 +69,19 @@ pub record IsAnsweredAt (ways : Ways) (command : Command) (word : List ℕ) (out
   pub opened : ways.opens word (Ok input)
   pub answered : IsAnsweredOf ways command input output exit
 
--- what is written for one word, what is told of it, and its status
+-- what is written for one argument, the message on it, and its status
 pub data IsReportedAt (ways : Ways) (command : Command) (word : List ℕ) : List ℕ → List ℕ → Status → Type 0 where
   answered : {output : List ℕ} {exit : Exit} → IsAnsweredAt ways command word output exit → IsReportedAt ways command word (part word (shown_output command.quiet output)) [] (status_of exit)
   unanswered : {fault : FileFault} → IsFaultAt ways command word fault → IsReportedAt ways command word [] (fault_line word fault) Fault
 
--- what is written for words in their order, what is told of them, and the greatest of their statuses
+-- what is written for arguments in their order, the messages on them, and the greatest of their statuses
 pub data AreReported (ways : Ways) (command : Command) : List (List ℕ) → List ℕ → List ℕ → Status → Type 0 where
   no_word : AreReported ways command [] [] [] Good
   one_more : {words : List (List ℕ)} {output told : List ℕ} {status : Status} → AreReported ways command words output told status
       → (word more tells : List ℕ) (next : Status) → IsReportedAt ways command word more tells next
       → AreReported ways command (words ++ word ∷ []) (output ++ more) (told ++ tells) (greatest status next)
 
--- all that is written for the words was written, and what is told of them was told unless telling failed
+-- all that is written for the arguments was written, and so were the messages on them unless such a write failed
 pub record ReportsEach (ways : Ways) (command : Command) (words : List (List ℕ)) (written grown : Option (List ℕ)) (is_lost : Bool) (told retold : Option (List ℕ)) (status : Status) : Type 0 where
   pub output : List ℕ
   pub tells : List ℕ

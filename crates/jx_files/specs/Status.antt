@@ -1,4 +1,4 @@
--- What reports on several inputs come to.
+-- The status of reports on several inputs.
 use Rattle.jx_ends.specs.declared.exit.Exit.{Exit}
 use Rattle.jx_ends.specs.declared.exit.Exit.TheVariants as exit
 use Rattle.jx_files.specs.declared.status.Status.{Status}

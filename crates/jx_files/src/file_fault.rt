@@ -12,18 +12,18 @@ pub enum FileFault {
     Open(Reason),
     /// A read of it failed.
     Read(Reason),
-    /// A growth of memory was refused.
+    /// An allocation failed.
     Memory,
-    /// It has more than 4,294,967,295 pieces.
+    /// It has more than 4,294,967,295 chunks.
     Pieces,
     /// It stands where a pointer should, and begins with no slash (RFC 6901, section 3).
     NoPointer,
-    /// It is the one word of a call that takes a pointer and a file, and both.
+    /// It is the only argument of a command that takes a pointer and a file, and could be both.
     PointerOrFile,
 }
 
 impl FileFault {
-    /// What is told first.
+    /// The first words of the message.
     pub(crate) fn head(self) -> &'static str
         ensures { result.now ≡ fault_head self }
     {
@@ -40,7 +40,7 @@ impl FileFault {
         }
     }
 
-    /// The reason that is told behind that, with a colon and a space in front; nothing where there is none.
+    /// The reason after that, with a colon and a space in front; nothing where there is none.
     pub(crate) fn tail(self) -> &'static str
         ensures { result.now ≡ fault_tail (fault_reason self) }
     {

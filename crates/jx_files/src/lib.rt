@@ -1,4 +1,4 @@
-//! Reports on several inputs, one after another: the output for each stands behind the word that names it.
+//! Reports on several inputs, one after another: the output for each follows the argument that names it.
 #![tactic(auto)]
 
 mod file_fault;

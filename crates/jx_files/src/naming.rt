@@ -1,4 +1,4 @@
-// The lines of an output behind a name.
+// The lines of an output after a name.
 ghost use Rattle.std.specs.Prelude.{◌≡◌, ◌++◌, ◌∷◌, [], if◌then◌else◌, codes, IfOk, OnOk};
 ghost use Rattle.jx_files.specs.Naming.{named, shown};
 

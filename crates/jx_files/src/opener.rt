@@ -11,7 +11,7 @@ pub trait Opener<S: Source, F: SharedAt<Fault = Reason>> {
     ghost use Rattle.jx_files.specs.declared.file_fault.FileFault.{FileFault};
     ghost use Rattle.jx_files.specs.declared.reason.Reason.{Reason};
 
-    /// What the opening of a word may come to.
+    /// What opening an argument may give.
     ghost opens: { Self → List ℕ → Result S FileFault → Type 0 };
 
     /// Why the last read of an input failed, of one that has failed.
@@ -32,7 +32,7 @@ pub trait Opener<S: Source, F: SharedAt<Fault = Reason>> {
     fn why(&self, input: &S) -> Reason
         ensures { result ≡ why self.now input.now };
 
-    /// What was opened, of which nothing was read, for reads at offsets; the same where it has none, as a pipe.
+    /// Returns what was opened, of which nothing was read, for reads at offsets; or the input as it was where it has none, as a pipe.
     fn share(&self, input: S) -> Result<F, S>
         ensures shares { IfOk result (λ _. shares self.now input) }
         ensures content { IfOk result (λ shared. F.content shared ≡ S.remaining input) }

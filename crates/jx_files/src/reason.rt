@@ -3,7 +3,7 @@ ghost use Rattle.jx_files.specs.Faults.{fault_tail, reason_at};
 
 use std::io;
 
-/// Why the system does not open a file or does not read it, as far as that is told.
+/// Why the system does not open a file or does not read it, as far as it has a message here.
 #[derive(Clone, Copy, Debug, PartialEq, Eq)]
 pub enum Reason {
     NotPermitted,
@@ -19,7 +19,7 @@ pub enum Reason {
     NameTooLong,
     Loop,
     Stale,
-    /// Any other, of which nothing is told.
+    /// Any other, which has no message here.
     Other,
 }
 
@@ -54,7 +54,7 @@ impl Reason {
         }
     }
 
-    /// What is told of it, as the C library puts it, with a colon and a space in front.
+    /// Its message, as the C library has it, with a colon and a space in front.
     pub(crate) fn told(self) -> &'static str
         ensures { result.now ≡ fault_tail self }
     {

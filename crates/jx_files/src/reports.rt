@@ -19,14 +19,14 @@ use std::alloc::Global;
 use std::sync::Wait;
 use std::thread::Threads;
 
-/// What an input is answered with: how its report ends, and its lines.
+/// The answer on an input: how its report ends, and its lines.
 #[derive(Drop)]
 struct Answer {
     exit: Exit,
     lines: Vec<u8>,
 }
 
-/// What is written for a word, and its status.
+/// The output for an argument, and its status.
 #[derive(Drop)]
 struct Part {
     lines: Vec<u8>,
@@ -52,7 +52,7 @@ fn answer_at<R: Threads + Wait + Sync, F: SharedAt<Fault = Reason> + Sync>(
             lines: lines.inner,
         }),
         Err(ReportAtFault::Read(reason)) => Err(FileFault::Read(reason)),
-        // Nothing but want of memory keeps lines from being written there.
+        // Only out of memory keeps lines from being written there.
         Err(ReportAtFault::Memory | ReportAtFault::Write) => Err(FileFault::Memory),
     }
 }
@@ -86,13 +86,13 @@ fn answer_from<
         }),
         Err(ReportFault::Read) => Err(FileFault::Read(opener.why(&input))),
         Err(ReportFault::Pieces) => Err(FileFault::Pieces),
-        // Nothing but want of memory keeps lines from being written there.
+        // Only out of memory keeps lines from being written there.
         Err(ReportFault::Memory | ReportFault::Write) => Err(FileFault::Memory),
     }
 }
 
-/// Reports into memory on an input: by several threads at offsets, where it has offsets and the command is one that shares
-/// them.
+/// Reports into memory on an input: by several threads at offsets, where it has offsets and the command reads it by several
+/// workers.
 fn answer_to<
     R: Threads + Wait + Sync,
     S: Source + Send + Drop,
@@ -146,7 +146,7 @@ fn answer_on<
     }
 }
 
-/// What is written for a word: the lines for what it names, behind the word.
+/// The output for an argument: the lines for what it names, after its name.
 fn part_of<
     R: Threads + Wait + Sync,
     S: Source + Send + Drop,
@@ -223,12 +223,12 @@ fn word_at<'a>(words: &[&'a str], number: usize) -> &'a str
     words[number]
 }
 
-/// Opens what each word names, in the order of the words, and reports on it: each line of its output is written behind the
-/// word as it is shown, a colon and a space, and a quiet command writes nothing. What is not to be had of one is told by a line,
+/// Opens what each word names, in the order of the words, and reports on it: each line of its output is written after the
+/// argument as it is shown, a colon and a space, and a quiet command writes nothing. What cannot be read of one is reported by a line,
 /// `jx: NAME: FAULT`, and the others are reported on. The status is the greatest of all.
 ///
-/// Each output stands in memory before it is written. Where a write fails, the rest of the words is left out. Where telling
-/// fails, no more is told.
+/// Each output is in memory before it is written. Where a write fails, the other arguments are left out. Where writing a message
+/// fails, no more is written to standard error.
 pub fn report_on_each<
     R: Threads + Wait + Sync,
     S: Source + Send + Drop,

@@ -1,4 +1,4 @@
-// Names of files as they are told: each is a word of one line, and can be read back.
+// Names of files as messages show them: each is a word of one line, and can be read back.
 ghost use Rattle.std.specs.Prelude.{◌≡◌, ◌&&◌, ◌<◌, ◌==◌, false, is_err, IfErr, IfOk, OnOk};
 ghost use Rattle.std.specs.Char.{encode_utf8};
 ghost use Rattle.std.specs.Io.KnownBytes.{Appends};
@@ -7,7 +7,7 @@ ghost use Rattle.jx_files.specs.Naming.{escaped, hex_digit, is_hidden, shown, sh
 use jx_ends::{End, ReportFault, Sink, write_whole};
 use std::alloc::{AllocError, Global};
 
-/// Whether a character is told by its bytes: a backslash, and what a terminal does not print but obeys.
+/// Whether a character is shown by its bytes: a backslash, and what a terminal does not print but obeys.
 fn is_hidden(character: char) -> bool
     ensures { result ≡ is_hidden character }
 {
@@ -51,7 +51,7 @@ fn write_escaped<E: Sink>(sink: &mut E, bytes: &[u8]) -> Result<(), ReportFault>
     Ok(())
 }
 
-/// Writes a character of a name, which may stand behind a colon.
+/// Writes a character of a name, which may follow a colon.
 fn write_character<E: Sink>(
     sink: &mut E,
     is_behind_colon: bool,
@@ -71,7 +71,7 @@ fn write_character<E: Sink>(
     }
 }
 
-/// Writes a name as it is told.
+/// Writes a name as it is shown.
 pub(crate) fn write_shown<E: Sink>(sink: &mut E, name: &str) -> Result<(), ReportFault>
     requires { E.has_failed sink.old ≡ false }
     ensures ok { OnOk result (Appends (E.contents sink.old) (E.contents sink.new) (shown name.now)) }
@@ -86,7 +86,7 @@ pub(crate) fn write_shown<E: Sink>(sink: &mut E, name: &str) -> Result<(), Repor
     Ok(())
 }
 
-/// A name as it is told: a character that a terminal obeys and does not print, a backslash, and a space behind a colon stand by
+/// A name as it is shown: a character that a terminal obeys and does not print, a backslash, and a space after a colon are shown by
 /// their bytes, each as `\xHH`. So a name is part of one line, and no colon with a space stands in it.
 pub fn shown_name(alloc: Global, name: &str) -> Result<Vec<u8>, AllocError>
     ensures { IfOk result (λ all. all.items ≡ shown name.now) }

@@ -3,7 +3,7 @@ ghost use Rattle.jx_files.specs.Status.{greatest, status_of};
 
 use jx_ends::Exit;
 
-/// What reports on several inputs come to.
+/// The result of reports on several inputs.
 #[derive(Clone, Copy, Debug, PartialEq, Eq)]
 pub enum Status {
     /// Each was answered, and its exit was good.

@@ -30,7 +30,7 @@ fn write_fault<E: Sink>(errors: &mut E, name: &str, fault: FileFault) -> Result<
     write_whole(errors, b"\n")
 }
 
-/// Tells of a fault of what a name stands for by a line, `jx: NAME: FAULT`, unless telling has failed before.
+/// Writes a line on a fault of what a name stands for, `jx: NAME: FAULT`, unless such a write has failed before.
 pub fn tell<E: Sink>(errors: &mut E, name: &str, fault: FileFault)
     ensures told { E.has_failed errors.new ≡ false → Appends (E.contents errors.old) (E.contents errors.new) (fault_line name.now fault) }
     ensures failed { E.has_failed errors.old ≡ true → E.has_failed errors.new ≡ true }

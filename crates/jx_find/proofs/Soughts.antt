@@ -20,7 +20,7 @@ use Rattle.jx_find.specs.OnSlice.{HasSought, Holds, IsSought}
 
 -- ---- one mark more
 
-seek_one : (text : List ℕ) (edges : List Edge) (last : ℕ) (m : Mark) (more : List Mark) (ends : List ℕ) (f : Finding)
+pub seek_one : (text : List ℕ) (edges : List Edge) (last : ℕ) (m : Mark) (more : List Mark) (ends : List ℕ) (f : Finding)
     → seek_all text edges last (m ∷ more) ends f ≡ seek_all text edges last more (ends_after m.kind ends) (sought text edges m.kind m.at (next_end last ends) f)
 unfolding seek_all
 seek_one text edges last m more ends f = refl
@@ -232,7 +232,7 @@ skips_as_many mark.Colon n h = absurd cc
 skips_as_many mark.Comma n h = absurd cc
 
 module _ (text : List ℕ) (edges : List Edge) (k : MarkKind) (at end : ℕ) (f : Finding) where
-  skipped_in : (n : ℕ) → f.skipped ≡ suc n → sought text edges k at end f ≡ record f { skipped = skip_over k n }
+  pub skipped_in : (n : ℕ) → f.skipped ≡ suc n → sought text edges k at end f ≡ record f { skipped = skip_over k n }
   skipped_in n e = ap (λ (i : ℕ). sought_in i text edges k at end f) e
 
   -- a mark that changes nothing, whether something is skipped or not

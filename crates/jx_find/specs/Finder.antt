@@ -10,7 +10,7 @@ use Rattle.jx_find.specs.declared.finder.Finder.{Finder}
 use Rattle.jx_find.specs.declared.held.Sought.{Sought}
 use Rattle.jx_find.specs.Held.{IsHeld}
 
--- by settings, a reader read these bytes of a text from its start on, and this is held of them
+-- by settings, a reader read these bytes of a text from its start on, and this is the state after them
 pub record HasHeld (settings : Settings) (bytes : List ℕ) (edges : List Edge) (reader : ReaderValue) (kept : Sought) : Type 0 where
   pub names : settings.names ≡ Any
   pub settings_are : reader.settings ≡ settings
@@ -36,6 +36,6 @@ end_of f = f.reader.start + f.reader.count
 abbrev pub held_by : Finder → Option Sought
 held_by f = f.held
 
--- memory was refused, and every slice will be
+-- it was out of memory, and will be for every slice
 abbrev pub IsLost : Finder → Type 0
 IsLost f = f.held ≡ None

@@ -10,11 +10,11 @@ use Rattle.jx_index.specs.inside.Seeking.{IsReady}
 use Rattle.jx_index.specs.inside.Trie.{IsTrie, is_name_next}
 use Rattle.jx_find.specs.Held.{Comes}
 
--- which bytes, marks and ends something may have been held of
+-- the bytes, token starts and ends that a state may be of
 abbrev pub Holds : Type 1
 Holds = List ℕ → List Mark → List ℕ → Type 0
 
--- of a name that has begun before the slice the bytes before the slice are held
+-- of a name that has begun before the slice the bytes before the slice are kept
 pub record IsSought (before slice : List ℕ) (edges : List Edge) (marks : List Mark) (ends : List ℕ) (k : Seeker) (begun : Option Mark) (name : List ℕ) : Type 0 where
   pub trie : IsTrie edges
   pub ready : IsReady edges k
@@ -22,7 +22,7 @@ pub record IsSought (before slice : List ℕ) (edges : List Edge) (marks : List 
   pub token : IsToken begun
   pub name_is : (m : Mark) → begun ≡ Some m → is_name_next m.kind (finding k.state) ≡ true → m.at < length before → name ≡ drop m.at before
 
--- whatever was held at the slice's start, these marks and ends of the slice were sought behind it
+-- whatever the state at the slice's start, these token starts and ends of the slice were sought after it
 pub record HasSought (held : Holds) (slice : List ℕ) (edges : List Edge) (marks : List Mark) (ends : List ℕ)
     (own : List ℕ) (base : ℕ) (own_edges : List Edge) (k : Seeker) (begun : Option Mark) (name : List ℕ) : Type 0 where
   pub slice_is : own ≡ slice

@@ -24,7 +24,7 @@ pub struct Finder<'p> {
     pointers: Vec<Pointer<'p>>,
     edges: Vec<Edge<'p>>,
     starts: Vec<usize>,
-    /// None where memory was refused.
+    /// None when out of memory.
     held: Option<Sought>,
     // A token has begun just where the reader stands inside one.
     ghost turn: { AreInTurn (λ (h : SoughtOf). h.begun) reader.outcome held } by { AreInTurn-prop (λ (h : SoughtOf). h.begun) reader.outcome held },
@@ -33,8 +33,8 @@ pub struct Finder<'p> {
 impl<'p> Finder<'p> {
     ghost use Rattle.jx_find.specs.Finder.{HasFed, IsLost, end_of, held_by};
 
-    /// A finder for pointers that was fed no byte. The settings may ignore a byte order mark in front of the text (section
-    /// 8.1); objects may have any names. `Err` where memory is refused.
+    /// A finder for pointers that was fed no byte. The settings may ignore a byte order mark in front of the text (RFC 8259,
+    /// section 8.1); objects may have any names. `Err` when out of memory.
     pub fn new(
         alloc: Global,
         settings: &Settings,
@@ -64,7 +64,7 @@ impl<'p> Finder<'p> {
         self.reader.end()
     }
 
-    /// What it holds of the bytes that it was fed; none where memory was refused. So who keeps bytes of the text can tell which
+    /// The state after the bytes that it was fed; none when out of memory. So who keeps bytes of the text can know which
     /// of them the value of a pointer may have.
     pub fn sought(&self) -> Option<&Sought>
         ensures none { IfNone result (IsLost self.now) }
@@ -76,7 +76,7 @@ impl<'p> Finder<'p> {
         }
     }
 
-    /// Reads the slice behind all bytes that it was fed. Only want of memory is refused, and from then on every slice is.
+    /// Reads the slice after all bytes that it was fed. Fails only when out of memory, and from then on for every slice.
     pub fn feed(&mut self, slice: &[u8]) -> Result<(), AllocError>
         requires fits { end_of self.old + length slice.now < 2 ^ 64 }
         ensures fed { OnOk result ((settings : Settings) (pointers : List (List ℕ)) (bytes : List ℕ) → HasFed settings pointers bytes self.old
@@ -92,8 +92,8 @@ impl<'p> Finder<'p> {
         Ok(())
     }
 
-    /// The answer on all bytes that it was fed. Returns the refusal where they are no text; else for each pointer, in order,
-    /// the value, or the first token that leads nowhere. `Err` where memory is or was refused.
+    /// The answer on all bytes that it was fed. Returns the refusal where they are not valid JSON; else for each pointer, in order,
+    /// the value, or the first token that leads nowhere. `Err` when it is or was out of memory.
     pub fn finish(self) -> Result<Result<Vec<Result<Found, FindFault>>, Refusal>, AllocError>
         ensures accepted { IfOk result (λ read. IfOk read (λ _. (settings : Settings) (pointers : List (List ℕ)) (bytes : List ℕ) → HasFed settings pointers bytes self.entry
             → IsVerdictBy settings bytes Accepted)) }

@@ -12,7 +12,7 @@ use jx_index::{Edge, FindFault, Found, Pointer, starts_of, trie_of};
 use jx_run::{Reader, Refusal, Settings, slices_are_told_in_turn};
 use std::alloc::{AllocError, Global};
 
-/// The same as `find_each_by`, through a trie of the pointers that `trie_of` made, and what `starts_of` tells of it. So many
+/// Finds as `find_each_by` does, through a trie of the pointers that `trie_of` made, and their starts by `starts_of`. So many
 /// texts are read through one trie.
 pub fn find_each_through(
     alloc: Global,

@@ -1,5 +1,5 @@
-// What is held of a text between two slices.
-ghost use Rattle.std.specs.Prelude.{◌≡◌, [], ℕ, List, All, None, length, IfOk};
+// The state of a look-up between two slices.
+ghost use Rattle.std.specs.Prelude.{◌≡◌, [], ℕ, List, All, None, length, IfOk, OnOk};
 ghost use Rattle.jx_lex.specs.declared.alphabet.mark.Mark.{Mark};
 ghost use Rattle.jx_index.specs.inside.Finding.{nothing_met};
 ghost use Rattle.jx_index.specs.inside.Trie.{IsTrie, seek_all};
@@ -24,7 +24,7 @@ pub struct Sought {
 }
 
 impl Sought {
-    /// What is held before the first byte, of a trie with so many edges. Only want of memory is refused.
+    /// The state before the first byte, of a trie with so many edges. Fails only when out of memory.
     pub fn new(alloc: Global, edges: &[Edge]) -> Result<Sought, AllocError>
         ensures held { IfOk result (λ held. IsTrie edges.now → IsHeld [] edges.now [] [] held.state held.next held.begun held.name.items) }
         ensures begun { IfOk result (λ held. held.begun ≡ None) }
@@ -38,7 +38,42 @@ impl Sought {
         })
     }
 
-    /// What was met up to the end of a text, which ends at `last`. Only want of memory is refused.
+    /// Holds what is held before the first byte, in the same memory. Only want of memory is refused.
+    pub fn again(&mut self, edges: &[Edge]) -> Result<(), AllocError>
+        ensures held { OnOk result (IsTrie edges.now → IsHeld [] edges.now [] [] self.new.state self.new.next self.new.begun self.new.name.items) }
+        ensures begun { OnOk result (self.new.begun ≡ None) }
+    {
+        self.state.again(edges.len())?;
+        self.next = 0;
+        self.begun = None;
+        self.name.clear();
+        Ok(())
+    }
+
+    /// After the end of a text, which ends at `last`: a token that has begun ends there. Only want of memory is refused.
+    pub fn ended(self, edges: &[Edge], starts: &[usize], last: usize) -> Result<Sought, AllocError>
+        ensures { IfOk result (λ ended. (bytes : List ℕ) (marks : List Mark) (ends : List ℕ) → last ≡ length bytes
+            → IsHeld bytes edges.now marks ends self.state self.next self.begun self.name.items
+            → ended.state.met.items ≡ (seek_all bytes edges.now (length bytes) marks ends (nothing_met (length edges.now))).met) }
+    {
+        let Some(mark) = self.begun else {
+            return Ok(self);
+        };
+        let mut seeker = Seeker {
+            state: self.state,
+            next: self.next,
+            starts,
+        };
+        seeker.tell(edges, mark.kind, mark.at, last, &self.name)?;
+        Ok(Sought {
+            state: seeker.state,
+            next: seeker.next,
+            begun: None,
+            name: self.name,
+        })
+    }
+
+    /// What was met up to the end of a text, which ends at `last`. Fails only when out of memory.
     pub fn into_met(
         self,
         edges: &[Edge],
@@ -49,15 +84,7 @@ impl Sought {
             → IsHeld bytes edges.now marks ends self.state self.next self.begun self.name.items
             → met.items ≡ (seek_all bytes edges.now (length bytes) marks ends (nothing_met (length edges.now))).met) }
     {
-        let Some(mark) = self.begun else {
-            return Ok(self.state.met);
-        };
-        let mut seeker = Seeker {
-            state: self.state,
-            next: self.next,
-            starts,
-        };
-        seeker.tell(edges, mark.kind, mark.at, last, &self.name)?;
-        Ok(seeker.state.met)
+        let ended = self.ended(edges, starts, last)?;
+        Ok(ended.state.met)
     }
 }

@@ -1,4 +1,4 @@
-// What pointers lead to, sought as a reader tells the tokens of a slice.
+// Look-ups of pointers as a reader gives the tokens of a slice.
 ghost use Rattle.std.specs.Prelude.{◌≡◌, ◌<◌, ◌-◌, ◌++◌, [], ℕ, List, Some, length, IfOk};
 ghost use Rattle.jx_lex.specs.declared.alphabet.mark.Mark.{Mark};
 ghost use Rattle.jx_run.specs.Telling.{moved_ends, moved_marks};
@@ -9,12 +9,13 @@ ghost use Rattle.jx_find.specs.Held.{IsHeld};
 ghost use Rattle.jx_find.specs.OnSlice.{HasSought};
 
 use crate::held::Sought;
+use crate::seek_counts::{children_behind, may_count, set_count, skipped_behind};
 use jx_index::{Edge, Seeker, has_end, held_name, moved, token_bytes};
-use jx_lex::{Mark, MarkKind, TokenSink};
+use jx_lex::{Mark, MarkKind, TokenCounts, TokenSink};
 use std::alloc::AllocError;
 use std::marker::{Brand, PhantomData};
 
-/// Of which bytes, marks and ends something was held at a slice's start, the slice's bytes, and the edges of the trie. A
+/// The bytes, token starts and ends of the state at a slice's start, the slice's bytes, and the edges of the trie. A
 /// call picks them.
 pub trait Before {
     ghost use Rattle.std.specs.Prelude.{ℕ, List};
@@ -38,7 +39,7 @@ impl Before for Brand {
     ghost edges = { [] };
 }
 
-/// How many containers are skipped behind a mark of this kind, where so many are skipped before it.
+/// How many containers are skipped after a token start of this kind, where so many are skipped before it.
 #[inline(always)]
 fn skip(skipped: usize, kind: MarkKind) -> Result<usize, AllocError>
     requires { 0 < skipped }
@@ -51,12 +52,12 @@ fn skip(skipped: usize, kind: MarkKind) -> Result<usize, AllocError>
     }
 }
 
-/// A seeker that is told the tokens of a slice which stands from `base` on.
+/// A seeker that takes the tokens of a slice which begins at `base`.
 #[derive(Drop)]
 pub struct OnSlice<'a, 'p, B> {
     /// The bytes of the slice.
     pub slice: &'a [u8],
-    /// How many bytes of the text stand before it.
+    /// How many bytes of the text are before it.
     pub base: usize,
     /// The edges of the trie.
     pub edges: &'a [Edge<'p>],
@@ -70,7 +71,7 @@ pub struct OnSlice<'a, 'p, B> {
 }
 
 impl<'a, 'p, B: Before> OnSlice<'a, 'p, B> {
-    /// What was held is told no token of the slice yet.
+    /// The state at the slice's start, before any of its tokens.
     pub fn new(
         slice: &'a [u8],
         base: usize,
@@ -111,7 +112,7 @@ impl<'a, 'p, B: Before> OnSlice<'a, 'p, B> {
         }
     }
 
-    /// What is held behind the slice. Only want of memory is refused.
+    /// The state after the slice. Fails only when out of memory.
     pub fn into_held(self) -> Result<Sought, AllocError>
         ensures held { IfOk result (λ held. (marks : List Mark) (ends : List ℕ)
             → HasSought B.held B.slice B.edges marks ends self.entry.slice.now self.entry.base self.entry.edges.now self.entry.seeker self.entry.begun self.entry.name.items
@@ -178,6 +179,30 @@ impl<'a, 'p, B: Before> TokenSink for OnSlice<'a, 'p, B> {
 
     fn is_done(&self) -> bool {
         false
+    }
+
+    #[inline(always)]
+    fn wants_counts(&self) -> bool {
+        self.seeker.state.skipped != 0 || may_count(&self.seeker)
+    }
+
+    #[inline(always)]
+    fn takes_counts(&self, counts: &TokenCounts) -> bool {
+        skipped_behind(self.seeker.state.skipped, counts).is_some()
+            || children_behind(&self.seeker, counts).is_some()
+    }
+
+    #[inline(always)]
+    fn counted(&mut self, counts: &TokenCounts) -> Result<(), AllocError> {
+        if let Some(skipped) = skipped_behind(self.seeker.state.skipped, counts) {
+            self.seeker.state.skipped = skipped;
+            return Ok(());
+        }
+        let Some(count) = children_behind(&self.seeker, counts) else {
+            return Err(AllocError);
+        };
+        set_count(&mut self.seeker.state.opened, count);
+        Ok(())
     }
 
     #[inline(always)]

@@ -1,4 +1,4 @@
-// A text that is read slice by slice, what is held of it between two slices, and what is told behind the last one.
+// A text that is read slice by slice, its state between two slices, and the answers after the last one.
 ghost use Rattle.std.specs.Prelude.{◌≡◌, ◌+◌, ◌<◌, ◌^◌, ◌++◌, All, ℕ, List, Some, false, length, IfOk, IfErr, OnOk};
 ghost use Rattle.jx_lex.specs.declared.alphabet.mark.Mark.{Mark};
 ghost use Rattle.jx_run.specs.declared.texts.settings.Settings.{Settings};
@@ -14,15 +14,15 @@ ghost use Rattle.jx_find.specs.Held.{IsHeld};
 
 use crate::held::Sought;
 use crate::on_slice::{Before, OnSlice};
-use jx_index::{Edge, FindFault, Found, Pointer, answers_of, names_are_refused_by_rows};
+use jx_index::{Edge, FindFault, Found, Pointer, answers_of, repeated_name_by_rows};
 use jx_run::{
-    Reader, Refusal, Verdict, reader_is_grammar, slices_are_told_in_turn,
-    verdict_by_settings_is_one,
+    Reader, Refusal, Verdict, reader_and_grammar, slices_are_told_in_turn,
+    unique_verdict_by_settings,
 };
 use std::alloc::{AllocError, Global};
 use std::marker::Brand;
 
-/// Reads a slice behind all bytes that were read, and seeks by its tokens. The call picks what is held.
+/// Reads a slice after all bytes that were read, and seeks by its tokens. The call picks the state.
 fn seek<B: Before>(
     reader: &mut Reader,
     edges: &[Edge],
@@ -52,7 +52,7 @@ fn seek<B: Before>(
     told.into_held()
 }
 
-/// Reads a slice behind all bytes that were read. Returns what is held behind it. Only want of memory is refused.
+/// Reads a slice after all bytes that were read. Returns the state after it. Fails only when out of memory.
 pub(crate) fn read_slice(
     reader: &mut Reader,
     edges: &[Edge],
@@ -70,8 +70,8 @@ pub(crate) fn read_slice(
     Ok(next)
 }
 
-/// The answers once all bytes were read. Returns the refusal where they are no text; else for each pointer, in order, the
-/// value, or the first token that leads nowhere. Only want of memory is refused.
+/// The answers once all bytes were read. Returns the refusal where they are not valid JSON; else for each pointer, in order, the
+/// value, or the first token that leads nowhere. Fails only when out of memory.
 pub(crate) fn answers_behind(
     alloc: Global,
     reader: &Reader,
@@ -85,9 +85,9 @@ pub(crate) fn answers_behind(
     ensures found { IfOk result (λ read. IfOk read (λ found. (settings : Settings) (bytes : List ℕ) → HasHeld settings bytes edges.now reader.now held
         → IsTrie edges.now → All (λ (pointer : List ℕ). HasWay edges.now pointer) pointers.now → AreFoundIn settings bytes pointers.now found.items)) }
 {
-    names_are_refused_by_rows();
-    reader_is_grammar();
-    verdict_by_settings_is_one();
+    repeated_name_by_rows();
+    reader_and_grammar();
+    unique_verdict_by_settings();
     match reader.verdict() {
         Verdict::Refused(refusal) => Ok(Err(refusal)),
         Verdict::Accepted => {

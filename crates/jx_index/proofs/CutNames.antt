@@ -1,8 +1,13 @@
 -- Marks and ends of a slice, behind those before it, and the bytes up to its end.
-use Rattle.std.proofs.Common.{◌≡◌, ℕ, ◌+◌, ◌-◌, List, [], ◌∷◌, ◌++◌, length, drop, sym, ap, ◌∙◌, append_assoc, arith}
+use Rattle.std.proofs.Common.{◌≡◌, ℕ, ◌+◌, ◌-◌, Bool, cond, List, [], ◌∷◌, ◌++◌, length, drop, refl, sym, ap, ◌∙◌, append_assoc, arith}
 use Rattle.std.specs.Prelude.{slice_range}
-use Rattle.std.proofs.lemmas.List.{length-drop, map-append, take_all}
+use Rattle.std.proofs.lemmas.List.{length-drop, length-map, map-append, take_all}
 use Rattle.jx_lex.specs.declared.alphabet.mark.Mark.{Mark}
+use Rattle.jx_lex.specs.declared.alphabet.mark.MarkKind.{MarkKind}
+use Rattle.jx_lex.specs.declared.scanner.counts.TokenCounts.{TokenCounts}
+use Rattle.jx_lex.specs.Counts.{HasCounts, number_of, is_comma, is_string, is_scalar, opens, closes}
+use Rattle.jx_lex.specs.Seen.{has_end}
+use Rattle.jx_lex.proofs.Counts.{number_of-more, number_of-has_end}
 use Rattle.jx_run.specs.Telling.{moved_ends, moved_mark, moved_marks}
 
 pub marks_more : (base : ℕ) (ms marks : List Mark) (m : Mark) → ms ++ moved_marks base (marks ++ m ∷ []) ≡ (ms ++ moved_marks base marks) ++ moved_mark base m ∷ []
@@ -13,3 +18,32 @@ ends_more base es ends at = ap (λ (xs : List ℕ). es ++ xs) (map-append (λ (e
 
 pub rest : (bytes : List ℕ) (at : ℕ) → slice_range bytes at (length bytes) ≡ drop at bytes
 rest bytes at = take_all (length bytes - at) (drop at bytes) (let e : length (drop at bytes) ≡ length bytes - at = length-drop at bytes in omega (arith, e))
+
+-- ---- many at once
+
+pub marks_all : (base : ℕ) (ms marks more : List Mark) → ms ++ moved_marks base (marks ++ more) ≡ (ms ++ moved_marks base marks) ++ moved_marks base more
+marks_all base ms marks more = ap (λ (xs : List Mark). ms ++ xs) (map-append (moved_mark base) marks more) ∙ sym (append_assoc ms (moved_marks base marks) (moved_marks base more))
+
+pub ends_all : (base : ℕ) (es ends others : List ℕ) → es ++ moved_ends base (ends ++ others) ≡ (es ++ moved_ends base ends) ++ moved_ends base others
+ends_all base es ends others = ap (λ (xs : List ℕ). es ++ xs) (map-append (λ (end : ℕ). base + end) ends others) ∙ sym (append_assoc es (moved_ends base ends) (moved_ends base others))
+
+-- where they stand does not matter for how many they are
+number_of-moved : (test : MarkKind → Bool) (base : ℕ) (ms : List Mark) → number_of test (moved_marks base ms) ≡ number_of test ms
+number_of-moved test base [] = refl
+number_of-moved test base (m ∷ ms) =
+    let rest = number_of-moved test base ms in
+    number_of-more test (moved_mark base m) (moved_marks base ms) ∙ ap (λ (n : ℕ). cond (test m.kind) 1 0 + n) rest ∙ sym (number_of-more test m ms)
+
+pub moved_counts : (base : ℕ) (ms : List Mark) (es : List ℕ) (counts : TokenCounts) → HasCounts ms es counts → HasCounts (moved_marks base ms) (moved_ends base es) counts
+moved_counts base ms es counts h = record {
+  commas = number_of-moved is_comma base ms ∙ h.commas;
+  strings = number_of-moved is_string base ms ∙ h.strings;
+  scalars = number_of-moved is_scalar base ms ∙ h.scalars;
+  opening = number_of-moved opens base ms ∙ h.opening;
+  closing = number_of-moved closes base ms ∙ h.closing;
+  ended = length-map es (λ (end : ℕ). base + end) ∙ h.ended;
+}
+
+-- as many ends as token starts with one
+pub ended_by : (ms : List Mark) (es : List ℕ) (counts : TokenCounts) → HasCounts ms es counts → length es ≡ number_of has_end ms
+ended_by ms es counts h = h.ended ∙ sym (number_of-has_end ms ∙ (λ i. h.strings i + h.scalars i))

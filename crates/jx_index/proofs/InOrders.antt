@@ -24,7 +24,7 @@ last_low (x ∷ xs) m h = last_low xs m (All-tail IsLow x (xs ++ m ∷ []) h)
 
 -- ---- one mark more
 
-make_one : (last : ℕ) (m : Mark) (more : List Mark) (ends : List ℕ) (b : Building)
+pub make_one : (last : ℕ) (m : Mark) (more : List Mark) (ends : List ℕ) (b : Building)
     → make last (m ∷ more) ends b ≡ make last more (ends_after m.kind ends) (on_mark m.kind m.at (next_end last ends) b)
 unfolding make
 make_one last m more ends b = refl

@@ -52,6 +52,7 @@ pub mod Ways
 pub mod Lookups
 pub mod Few
 pub mod Climbs
+pub mod Along
 pub mod Nexts
 pub mod Levels
 pub mod Showing

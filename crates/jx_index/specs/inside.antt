@@ -12,6 +12,7 @@ pub mod NameFronts
 pub mod NameKeys
 pub mod NameLists
 pub mod OpenNames
+pub mod PointerWays
 pub mod Growing
 pub mod InOrder
 pub mod InTurn

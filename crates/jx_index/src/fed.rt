@@ -1,26 +1,30 @@
 // Look-ups of the pointers of a trie in a text that is fed: names are given by their bytes, and the text itself is not
 // at hand.
-ghost use Rattle.std.specs.Prelude.{◌≡◌, ℕ, All, List, length, slice_range, true, IfOk};
+ghost use Rattle.std.specs.Prelude.{◌≡◌, ℕ, All, List, length, map, slice_range, true, IfOk, OnOk};
+ghost use Rattle.std.specs.List.{AllZip};
 ghost use Rattle.jx_lex.specs.declared.alphabet.mark.MarkKind.TheVariants.{String};
 ghost use Rattle.jx_run.specs.declared.texts.settings.Settings.{Settings};
 ghost use Rattle.jx_run.specs.declared.texts.verdict.Verdict.TheVariants.{Accepted};
 ghost use Rattle.jx_run.specs.Settings.{JudgedBy};
 ghost use Rattle.jx_run.specs.Telling.{tokens_by};
+ghost use Rattle.jx_index.specs.declared.trie.Edge.{Edge};
 ghost use Rattle.jx_index.specs.Found.{AreFoundIn};
 ghost use Rattle.jx_index.specs.inside.Finding.{nothing_met};
 ghost use Rattle.jx_index.specs.inside.Found.{finding};
+ghost use Rattle.jx_index.specs.inside.PointerWays.{IsWayOf, nodes_of};
 ghost use Rattle.jx_index.specs.inside.Seeking.{IsReady};
 ghost use Rattle.jx_index.specs.inside.Trie.{HasWay, IsTrie, is_name_next, seek_all, sought};
 
 use crate::find_fault::FindFault;
 use crate::finder::{Found, Met};
-use crate::laws::indexes_stand_behind_fronts;
+use crate::laws::index_behind_a_front;
 use crate::pointer::Pointer;
-use crate::read_met::read_each;
+use crate::pointer_ways::Way;
+use crate::read_met::{read_each, read_ways};
 use crate::seeker::Seeker;
 use crate::trie::Edge;
 use crate::trie_nodes::member;
-use jx_lex::{MarkKind, Span, tokens_are_read};
+use jx_lex::{MarkKind, Span, grammar_of_tokens};
 use jx_run::accepted_texts_stand_behind_fronts;
 use std::alloc::{AllocError, Global};
 
@@ -90,9 +94,30 @@ pub fn answers_of(
         → met.now ≡ (seek_all bytes edges.now (length bytes) (tokens_by settings.mark bytes).marks (tokens_by settings.mark bytes).ends (nothing_met (length edges.now))).met
         → AreFoundIn settings bytes pointers.now found.items) }
 {
-    tokens_are_read();
+    grammar_of_tokens();
     accepted_texts_stand_behind_fronts();
-    indexes_stand_behind_fronts();
+    index_behind_a_front();
     let found = read_each(alloc, edges, starts, met, pointers)?;
     Ok(found)
+}
+
+/// The same, by the ways of the pointers, and in place of what was found before. So it takes no memory for a pointer that
+/// leads to a value.
+pub fn answers_along(
+    alloc: Global,
+    met: &[Met],
+    ways: &[Way],
+    pointers: &[Pointer],
+    found: &mut Vec<Result<Found, FindFault>>,
+) -> Result<(), AllocError>
+    requires { length pointers.now ≡ length ways.now }
+    ensures { OnOk result ((settings : Settings) (bytes : List ℕ) (edges : List Edge) → IsTrie edges → All (λ (pointer : List ℕ). HasWay edges pointer) pointers.now → AllZip (IsWayOf edges) pointers.now (map nodes_of ways.now)
+        → JudgedBy settings 0 bytes Accepted
+        → met.now ≡ (seek_all bytes edges (length bytes) (tokens_by settings.mark bytes).marks (tokens_by settings.mark bytes).ends (nothing_met (length edges))).met
+        → AreFoundIn settings bytes pointers.now found.new.items) }
+{
+    grammar_of_tokens();
+    accepted_texts_stand_behind_fronts();
+    index_behind_a_front();
+    read_ways(alloc, met, ways, pointers, found)
 }

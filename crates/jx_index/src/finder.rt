@@ -1,5 +1,5 @@
 // The values met at the nodes of a trie, and the open containers, as the token starts of a text come.
-ghost use Rattle.std.specs.Prelude.{◌≡◌, ◌+◌, ◌-◌, ◌<◌, reverse, IfOk};
+ghost use Rattle.std.specs.Prelude.{◌≡◌, ◌+◌, ◌-◌, ◌<◌, reverse, IfOk, OnOk};
 ghost use Rattle.jx_index.specs.inside.Finding.{met_more, met_ended, meet, shut, counted, leaf_at, begin_at, end_in, naming, nothing_met, skip_over};
 ghost use Rattle.jx_index.specs.inside.Found.{finding, HasRoom};
 
@@ -120,6 +120,19 @@ impl State {
             skipped: 0,
             name: None,
         })
+    }
+
+    /// Begins another look-up in the memory of this one: nothing was met yet of so many tokens. Only want of memory is refused.
+    pub fn again(&mut self, tokens: usize) -> Result<(), AllocError>
+        ensures { OnOk result (finding self.new ≡ nothing_met tokens) }
+    {
+        let levels = one_more(tokens)?;
+        self.met.clear();
+        self.met.resize(levels, Met::Never)?;
+        self.opened.clear();
+        self.skipped = 0;
+        self.name = None;
+        Ok(())
     }
 
     /// A value of one token, to which so many tokens lead, where they do.

@@ -17,8 +17,8 @@ use crate::child_lists::{ChildLists, child_list, fronts_of};
 use crate::children::{Children, children_in};
 use crate::row::{NodeId, Row};
 use crate::rows_alone::read_nodes;
-use jx_lex::{Depth, Span, tokens_are_read};
-use jx_run::{Pace, Refusal, Started, Summary, TextRun, text_has_one_tree};
+use jx_lex::{Depth, Span, grammar_of_tokens};
+use jx_run::{Pace, Refusal, Started, Summary, TextRun, unique_tree};
 use std::alloc::{AllocError, Global};
 use std::marker::Model;
 
@@ -68,7 +68,7 @@ impl<'a> Indexed<'a> {
         ensures rows { IfOk result (λ index. (limit : ℕ) (tree : Tree)
             → IsText text.now started.now.span.start started.now.span.end limit tree → index.rows ≡ rows_of tree) }
     {
-        tokens_are_read();
+        grammar_of_tokens();
         let span = started.span();
         let nodes = nodes_from_marks(alloc, started.marks(), started.ends(), span.end)?;
         let index = Indexed::of_nodes(alloc, text, span, nodes)?;
@@ -116,7 +116,7 @@ impl<'a> Indexed<'a> {
         ensures rows { IfOk result (λ index. (limit : ℕ) (tree : Tree)
             → IsText text.now run.now.map.start run.now.map.end limit tree → index.rows ≡ rows_of tree) }
     {
-        tokens_are_read();
+        grammar_of_tokens();
         let span = run.span();
         let nodes = nodes_of_track(alloc, run.marks(), run.ends(), span.end)?;
         let index = Indexed::of_nodes(alloc, text, span, nodes)?;
@@ -135,7 +135,7 @@ impl<'a> Indexed<'a> {
         ensures span { IfOk result (λ index. index.span ≡ span) }
         ensures rows { IfOk result (λ index. index.rows ≡ nodes.rows.items) }
     {
-        text_has_one_tree();
+        unique_tree();
         let lists = ChildLists::of(alloc, text, &nodes.rows, &nodes.after)?;
         Ok(Indexed {
             text,
@@ -215,7 +215,7 @@ impl<'a> Indexed<'a> {
         child_list(&self.lists.starts, &self.lists.children, object.number())
     }
 
-    /// The same members, with the fronts of their names where these are kept.
+    /// The members of an object by rising names, with the fronts of their names where these are kept.
     pub(crate) fn name_order(&self, object: NodeId) -> NameOrder<'_>
         requires { IsObjectAt self.now.rows object }
         ensures order { IsInNameOrder self.now.text self.now.rows (child_numbers self.now.rows object) result.names.now }

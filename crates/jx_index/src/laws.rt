@@ -27,13 +27,13 @@ ghost use Rattle.jx_index.specs.Settled.{IsIndexBy, IsIndexFrom, rest_from};
 ghost use Rattle.jx_index.specs.Standing.{HasNode, Standing, Stands, root_standing};
 ghost use Rattle.jx_index.specs.Units.{chars_units, between_marks};
 
-use jx_lex::tokens_are_read;
-use jx_run::fronts_decide_where_texts_begin;
+use jx_lex::grammar_of_tokens;
+use jx_run::beginning_of_a_text_by_its_front;
 
 /// The value read off a string is its value. The texts that are read as pointers are exactly those of a pointer's form,
 /// and their tokens are that form's. The rows of a text are in rising order of their starts. Those whose parent is a
 /// node are its children, in order.
-pub fn readings_are_forms()
+pub fn strings_pointers_and_rows()
     ensures strings { (w us : List ℕ) → IsString w us → chars_units InText 0 (between_marks w) ≡ us }
     ensures pointers { (p : List ℕ) (ts : List (List ℕ)) → IsPointerOf p ts → tokens p ≡ ts }
     ensures spelt { (p : List ℕ) (ts : List (List ℕ)) → IsPointerOf p ts → IsUtf8 p × IsPointer p }
@@ -43,26 +43,26 @@ pub fn readings_are_forms()
     ensures children { (tree inner : Tree) (t : Standing) → Stands tree root_standing inner t
         → child_numbers (rows tree) t.number ≡ map (λ (c : Numbered). c.number) (numbered (children_of inner) (suc t.number)) }
 {
-    tokens_are_read();
+    grammar_of_tokens();
 }
 
 /// The row of the node to which tokens lead has that node's kind, span and name. Each row of a text is the row of a
 /// node of its tree.
-pub fn look_ups_end_at_rows()
+pub fn rows_of_look_ups()
     ensures led { (text : List ℕ) (tree : Tree) (tokens : List (List ℕ)) (node : Numbered) → led text tree tokens ≡ Ok node → HasRow (rows tree) node }
     ensures nodes { (tree : Tree) (number : ℕ) → number < length (rows tree) → HasNode tree number }
 {}
 
 /// Where no object of a text repeats a name, as `Indexed::repeated` decides, no look-up answers that a name is
 /// repeated.
-pub fn unique_names_are_met_once()
+pub fn look_ups_with_unique_names()
     ensures { (text : List ℕ) (start end limit : ℕ) (tree : Tree) → IsText text start end limit tree → IsLeast (IsRepeat text (rows tree)) None
         → (tokens : List (List ℕ)) (token : ℕ) → leads text tree tokens ≡ Err (NameRepeated token) → ⊥ }
 {}
 
 /// An index over an accepted text from an offset on has the rows of its tree. Where that offset is just after the front
 /// of the bytes, the same holds by settings of all bytes.
-pub fn indexes_stand_behind_fronts()
+pub fn index_behind_a_front()
     ensures over { (text : List ℕ) (start limit : ℕ) (index : IndexedValue) → Judged start (rest_from start text) limit Accepted → index.text ≡ text
         → index.span ≡ span start (length text) → ((d : ℕ) (tree : Tree) → IsText text start (length text) d tree → index.rows ≡ rows tree)
         → IsIndexFrom start text limit index }
@@ -73,12 +73,12 @@ pub fn indexes_stand_behind_fronts()
     ensures text { (settings : Settings) (text : List ℕ) (index : IndexedValue) (x : IsIndexBy settings text index)
         → IsText index.text index.span.start index.span.end settings.depth x.tree }
 {
-    fronts_decide_where_texts_begin();
+    beginning_of_a_text_by_its_front();
 }
 
 /// A rule on names refuses a text for the name for which it refuses the text's rows. Where objects may have any names, the
 /// verdict is that of the grammar and the byte order mark alone.
-pub fn names_are_refused_by_rows()
+pub fn repeated_name_by_rows()
     ensures name { (settings : Settings) (text : List ℕ) (index : IndexedValue) (name : Option ℕ) (x : IsIndexBy settings text index)
         → RefusesName settings.names index.text index.rows name → RefusesName settings.names text (rows x.tree) name }
     ensures any { (settings : Settings) (bytes : List ℕ) (verdict : Verdict) → settings.names ≡ Any → IsVerdictBy settings bytes verdict ↔ JudgedBy settings 0 bytes verdict }

@@ -21,6 +21,7 @@ mod name_lists;
 mod names;
 mod open_names;
 mod pointer;
+mod pointer_ways;
 mod read_met;
 mod repeats;
 mod row;
@@ -38,16 +39,17 @@ mod wanted;
 pub use builder::has_end;
 pub use children::Children;
 pub use cut_names::{held_name, moved, token_bytes};
-pub use fed::answers_of;
+pub use fed::{answers_along, answers_of};
 pub use find_fault::FindFault;
 pub use finder::{Cursor, Found, Met, State};
 pub use indexed::Indexed;
 pub use judging::{judge_elements, judged_by_names};
 pub use laws::{
-    indexes_stand_behind_fronts, look_ups_end_at_rows, names_are_refused_by_rows,
-    readings_are_forms, unique_names_are_met_once,
+    index_behind_a_front, look_ups_with_unique_names, repeated_name_by_rows, rows_of_look_ups,
+    strings_pointers_and_rows,
 };
 pub use pointer::{Pointer, PointerFault};
+pub use pointer_ways::{Way, ways_of};
 pub use row::{NodeId, Row};
 pub use rows_alone::{read_rows, rows_from};
 pub use seeker::Seeker;

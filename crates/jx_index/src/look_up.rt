@@ -74,7 +74,7 @@ fn equal_fronts(fronts: &[u64], front: u64) -> Span
     }
 }
 
-/// The same, where the fronts of all names are known: only members with the token's front are looked at.
+/// The member with a name, where the fronts of all names are known: only members with the token's front are looked at.
 fn find_by_front(
     text: &[u8],
     rows: &[Row],

@@ -51,7 +51,7 @@ fn first_equal(text: &[u8], names: &[Span]) -> Option<usize>
     first
 }
 
-/// The same among names by place of which none need stand beside another of its units. They are sorted in a list that is
+/// The least start of a repeated name, among names by place that need not be sorted. They are sorted in a list that is
 /// used again.
 fn first_repeated_by_order(
     text: &[u8],

@@ -127,7 +127,7 @@ fn compare_whole(left: &[u8], one: Spelling, right: &[u8], other: Spelling) -> O
     compare_rests(skip(left, same), one, skip(right, same), other)
 }
 
-/// The same. The first bytes mostly decide.
+/// Compares two names or tokens. The first bytes mostly decide.
 #[inline(always)]
 #[tactic(auto, unfolding(crate::specs::Units::chars_units))]
 pub(crate) fn compare_bytes(left: &[u8], one: Spelling, right: &[u8], other: Spelling) -> Ordering

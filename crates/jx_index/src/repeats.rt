@@ -61,7 +61,7 @@ fn first_tie(text: &[u8], rows: &[Row], names: &[NodeId]) -> Option<usize>
     first
 }
 
-/// The same, which is the first name that is not the first of its units, where the names rise.
+/// The first name that is not the first of its units, where the names rise.
 fn first_repeat(text: &[u8], rows: &[Row], names: &[NodeId]) -> Option<usize>
     requires { IsSortedBy (is_below text.now rows.now) names.now }
     ensures { IsLeast (IsRepeatIn text.now rows.now names.now) result }

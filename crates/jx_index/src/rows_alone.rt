@@ -13,10 +13,10 @@ ghost use Rattle.jx_index.specs.Settled.{rest_from};
 
 use crate::builder::{Builder, Nodes};
 use crate::in_order::InOrder;
-use crate::laws::indexes_stand_behind_fronts;
+use crate::laws::index_behind_a_front;
 use crate::row::Row;
 use crate::unique_names::verdict_with_unique_names;
-use jx_lex::{Depth, Span, tokens_are_read};
+use jx_lex::{Depth, Span, grammar_of_tokens};
 use jx_run::{Front, NameRule, NoPause, Pace, Refusal, Settings, Verdict, front, read_into};
 use std::alloc::{AllocError, Global};
 
@@ -36,7 +36,7 @@ pub(crate) fn read_nodes<P: Pace>(
     ensures accepted { IfOk result (λ read. IfOk read (λ nodes. Judged span.start (slice_range text.now span.start span.end) depth Accepted)) }
     ensures refused { IfOk result (λ read. IfErr read (λ refusal. Judged span.start (slice_range text.now span.start span.end) depth (Refused refusal))) }
 {
-    tokens_are_read();
+    grammar_of_tokens();
     let builder = Builder::new(alloc);
     let sink = InOrder::new(builder);
     let told = read_into(alloc, text, span.start, span.end, depth, sink, pace)?;
@@ -80,7 +80,7 @@ fn rows_behind_front(
     ensures accepted { IfOk result (λ read. IfOk read (λ rows. AreRowsRead settings.now text.now rows.items)) }
     ensures refused { IfOk result (λ read. IfErr read (λ refusal. JudgedBy settings.now 0 text.now (Refused refusal))) }
 {
-    indexes_stand_behind_fronts();
+    index_behind_a_front();
     match front(text, settings.mark) {
         Front::Refused(refusal) => Ok(Err(refusal)),
         Front::Skip(count) => rows_from(alloc, text, count, settings.depth, &mut NoPause),

@@ -5,7 +5,7 @@ ghost use Rattle.jx_index.specs.ByNames.{IsVerdictBy};
 ghost use Rattle.jx_index.specs.Settled.{IsAnswerBy, IsAnswerFrom, IsReadBy, rest_from};
 
 use crate::indexed::Indexed;
-use crate::laws::{indexes_stand_behind_fronts, names_are_refused_by_rows};
+use crate::laws::{index_behind_a_front, repeated_name_by_rows};
 use jx_lex::{Depth, Span};
 use jx_run::{Front, NameRule, NoPause, Pace, Refusal, Settings, TextRun, Verdict, front};
 use std::alloc::{AllocError, Global};
@@ -34,7 +34,7 @@ impl<'a> TextAnswer<'a> {
         Ok(answer.by_names(settings.names))
     }
 
-    /// The same whatever names the objects have.
+    /// Reads a text by settings, whatever names the objects have.
     fn read_behind_front(
         alloc: Global,
         text: &'a [u8],
@@ -42,7 +42,7 @@ impl<'a> TextAnswer<'a> {
     ) -> Result<TextAnswer<'a>, AllocError>
         ensures { IfOk result (IsReadBy settings.now text.entry.now) }
     {
-        indexes_stand_behind_fronts();
+        index_behind_a_front();
         match front(text, settings.mark) {
             Front::Refused(refusal) => Ok(TextAnswer::Refused(refusal)),
             Front::Skip(count) => {
@@ -63,7 +63,7 @@ impl<'a> TextAnswer<'a> {
         requires within { start ≤ length text.now }
         ensures answer { IfOk result (λ answer. IsAnswerFrom start text.entry.now depth answer) }
     {
-        indexes_stand_behind_fronts();
+        index_behind_a_front();
         let end = text.len();
         let read = Indexed::read(alloc, text, Span { start, end }, depth, pace)?;
         match read {
@@ -83,7 +83,7 @@ impl<'a> TextAnswer<'a> {
         requires of { IsTextRun (rest_from run.now.map.start text.now) run.now }
         ensures answer { IfOk result (λ answer. IsAnswerFrom run.now.map.start text.entry.now run.now.depth answer) }
     {
-        indexes_stand_behind_fronts();
+        index_behind_a_front();
         match run.verdict() {
             Verdict::Refused(refusal) => Ok(TextAnswer::Refused(refusal)),
             Verdict::Accepted => {
@@ -98,7 +98,7 @@ impl<'a> TextAnswer<'a> {
     pub fn by_names(self, rule: NameRule) -> TextAnswer<'a>
         ensures answer { (settings : Settings) (text : List ℕ) → settings.names ≡ rule → IsReadBy settings text self.entry → IsAnswerBy settings text result }
     {
-        names_are_refused_by_rows();
+        repeated_name_by_rows();
         match self {
             TextAnswer::Refused(refusal) => TextAnswer::Refused(refusal),
             TextAnswer::Accepted(index) => match index.refused_name(rule) {

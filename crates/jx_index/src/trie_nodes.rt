@@ -1,10 +1,10 @@
 // The nodes of a trie: where tokens lead, and what was met there.
-ghost use Rattle.std.specs.Prelude.{◌≡◌, ◌∷◌, ◌≤◌, [], ℕ, List, length, map, slice_get, IfOk, IsTrue, Some};
-ghost use Rattle.jx_index.specs.Pointers.{tokens};
+ghost use Rattle.std.specs.Prelude.{◌≡◌, ◌∷◌, ◌≤◌, [], length, slice_get, IfOk, IsTrue, Some};
 ghost use Rattle.jx_index.specs.Units.{chars_units};
 ghost use Rattle.jx_index.specs.inside.FewEdges.{is_led, BeginsAt, EndsAt};
 ghost use Rattle.jx_index.specs.inside.Finding.{met_at};
-ghost use Rattle.jx_index.specs.inside.Trie.{child_at, follows, member_at, sought_key, stands_before, IsFirstFrom, IsTrie, IsWay};
+ghost use Rattle.jx_index.specs.inside.PointerWays.{IsWayOf};
+ghost use Rattle.jx_index.specs.inside.Trie.{child_at, follows, member_at, sought_key, stands_before, IsFirstFrom, IsTrie};
 
 use crate::find::token_len;
 use crate::finder::Met;
@@ -195,29 +195,28 @@ pub(crate) fn met_at(met: &[Met], node: usize) -> Met
     }
 }
 
-/// The values met where a pointer's tokens lead, the root first.
-pub(crate) fn met_along(
+/// The nodes to which a pointer's tokens lead, the root first.
+pub(crate) fn way_of(
     alloc: Global,
     edges: &[Edge],
     starts: &[usize],
-    met: &[Met],
     pointer: &Pointer,
-) -> Result<Vec<Met>, AllocError>
-    ensures { IfOk result (λ along. IsTrie edges.now → (path : List ℕ) → IsWay edges.now 0 (tokens pointer.now) path → along.items ≡ map (met_at met.now) path) }
+) -> Result<Vec<usize>, AllocError>
+    ensures { IfOk result (λ way. IsWayOf edges.now pointer.now way.items) }
 {
-    let mut along = Vec::new(alloc);
+    let mut way = Vec::new(alloc);
     let mut node = 0;
     let mut rest = pointer.bytes();
     while !rest.is_empty() {
-        along.push(met_at(met, node))?;
+        way.push(node)?;
         let bytes = skip(rest, 1);
         let len = token_len(bytes);
         match child(edges, starts, node, keep(bytes, len), Spelling::InToken) {
             Some(next) => node = next,
-            None => return Ok(along),
+            None => return Ok(way),
         }
         rest = skip(bytes, len);
     }
-    along.push(met_at(met, node))?;
-    Ok(along)
+    way.push(node)?;
+    Ok(way)
 }

@@ -11,9 +11,9 @@ ghost use Rattle.jx_index.specs.Rows.{rows};
 ghost use Rattle.jx_index.specs.inside.NameLists.{accepted_unless};
 
 use crate::in_order::{InOrder, Marking};
-use crate::laws::indexes_stand_behind_fronts;
+use crate::laws::index_behind_a_front;
 use crate::open_names::OpenNames;
-use jx_lex::{Depth, MarkKind, Span, tokens_are_read};
+use jx_lex::{Depth, MarkKind, Span, grammar_of_tokens};
 use jx_run::{Front, Pace, Refusal, Settings, Verdict, front, read_into};
 use std::alloc::{AllocError, Global};
 use std::marker::{Brand, PhantomData};
@@ -49,7 +49,7 @@ impl<'a, S: Source> Marking for NamesOf<'a, S> {
     }
 }
 
-/// The same as `repeated_name`, of a text with the bytes of a source.
+/// The first repeated name as by `repeated_name`, of a text with the bytes of a source.
 fn repeated_name_of<S: Source, P: Pace>(
     alloc: Global,
     text: &[u8],
@@ -65,7 +65,7 @@ fn repeated_name_of<S: Source, P: Pace>(
     ensures name { IfOk result (λ read. IfOk read (λ name. (limit : ℕ) (tree : Tree)
         → IsText text.now span.start span.end limit tree → IsLeast (IsRepeat text.now (rows tree)) name)) }
 {
-    tokens_are_read();
+    grammar_of_tokens();
     let names: NamesOf<'_, S> = NamesOf {
         names: OpenNames::new(alloc, text),
         source: PhantomData,
@@ -124,7 +124,7 @@ pub fn verdict_with_unique_names<P: Pace>(
     requires unique { settings.now.names ≡ Unique }
     ensures verdict { IfOk result (IsVerdictBy settings.now text.now) }
 {
-    indexes_stand_behind_fronts();
+    index_behind_a_front();
     let start = match front(text, settings.mark) {
         Front::Refused(refusal) => return Ok(Verdict::Refused(refusal)),
         Front::Skip(count) => count,

@@ -5,6 +5,7 @@ pub mod Cases
 pub mod CellTable
 pub mod ClassTable
 pub mod Completes
+pub mod Counts
 pub mod Escapes
 pub mod Forward
 pub mod Going

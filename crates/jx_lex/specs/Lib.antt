@@ -1,6 +1,7 @@
 pub mod Ahead
 pub mod Character
 pub mod Classes
+pub mod Counts
 pub mod Exit
 pub mod Lex
 pub mod Moves

@@ -13,14 +13,14 @@ ghost use Rattle.jx_lex.specs.TokenSteps.{GapStep, TokenStep};
 ghost use Rattle.jx_lex.specs.TwoPieces.{joined};
 
 /// Bytes that keep the state and have no event may be skipped, and so may those that lead back to it.
-pub fn uneventful_bytes_may_be_passed_over()
+pub fn skipped_bytes_without_events()
     ensures kept { (s : LexState) (at : ℕ) (run bytes : List ℕ) → AllKeep s run → lex s at (run ++ bytes) ≡ lex s (at + length run) bytes }
     ensures led { (s t : LexState) (at : ℕ) (run bytes : List ℕ) → Leads s run t → lex s at (run ++ bytes) ≡ lex t (at + length run) bytes }
 {}
 
 /// Bytes are read part by part: the second goes on in the state that the first leads to, and after a fault nothing is
 /// read.
-pub fn pieces_are_read_in_turn()
+pub fn lex_of_two_parts()
     ensures two { (s : LexState) (at : ℕ) (first rest : List ℕ) → lex s at (first ++ rest) ≡ joined (lex s at first) (λ next. lex next (at + length first) rest) }
     ensures stretch { (text : List ℕ) (a b c : ℕ) (s : LexState) → a ≤ b → b ≤ c → b ≤ length text
         → lex s a (slice_range text a c) ≡ joined (lex s a (slice_range text a b)) (λ next. lex next b (slice_range text b c)) }
@@ -28,7 +28,7 @@ pub fn pieces_are_read_in_turn()
 
 /// Exactly the tokens of RFC 8259 (sections 3, 6 and 7) are read as one token. Also what a byte may do, in a token and
 /// between tokens.
-pub fn tokens_are_read()
+pub fn grammar_of_tokens()
     ensures reads { (kind : Kind) (bytes : List ℕ) → IsToken kind bytes → IsRead (mark_of kind) bytes }
     ensures tokens { (kind : Kind) (bytes : List ℕ) → IsRead (mark_of kind) bytes → IsToken kind bytes }
     ensures stays { (s next : LexState) (byte : ℕ) → in_token s ≡ true → move s byte ≡ go next → in_token next ≡ true }
@@ -37,7 +37,7 @@ pub fn tokens_are_read()
 {}
 
 /// Each state stands in the list of all states at its ordinal, and the state that stands at a number has that ordinal.
-pub fn states_stand_in_order()
+pub fn state_ordinals()
     ensures low { (s : LexState) → ordinal s < 32 }
     ensures state { (s : LexState) → slice_get all_states (ordinal s) ≡ Some s }
     ensures ordinal { (n : ℕ) → n < 32 → ordinal (slice_index_or all_states n state.Gap) ≡ n }

@@ -14,12 +14,10 @@ pub use alphabet::mark::{Mark, MarkKind};
 pub use alphabet::state::{LexState, Step, TokenEnd};
 pub use jx_summary::{Depth, JoinFault, Span};
 pub use kind::Kind;
-pub use laws::{
-    pieces_are_read_in_turn, states_stand_in_order, tokens_are_read,
-    uneventful_bytes_may_be_passed_over,
-};
+pub use laws::{grammar_of_tokens, lex_of_two_parts, skipped_bytes_without_events, state_ordinals};
 pub use scanner::ahead::Ahead;
 pub use scanner::byte_sets::{digit_end, plain_end};
+pub use scanner::counts::TokenCounts;
 pub use scanner::scan;
 pub use scanner::sink::TokenSink;
 pub use scanner::tokens::Tokens;

@@ -11,6 +11,7 @@ ghost use Rattle.jx_lex.specs.Exit.{exit_of};
 
 pub(crate) mod ahead;
 pub(crate) mod byte_sets;
+pub(crate) mod counts;
 pub(crate) mod escape_blocks;
 pub(crate) mod sink;
 pub(crate) mod string_chars;

@@ -12,19 +12,21 @@ use Rattle.jx_run.specs.Settings.{byte_order_mark}
 use Rattle.jx_run.proofs.PartedJoins.{AllZip-append}
 use Rattle.jx_run.proofs.SeqReading.{has, has_not}
 use Rattle.jx_run.proofs.Fronts.{none_agreed}
+use Rattle.jx_ndjson.specs.Answers.{IsVerdictOn, mark_at, settings_at}
 use Rattle.jx_ndjson.specs.Lines.{Line, line, ended_lines, is_line_feed, lines, lines_of, mark_length}
 use Rattle.jx_ndjson.specs.Parts.{before_first, behind_each, parts_by}
 use Rattle.jx_ndjson.specs.Reading.{ended_from}
 use Rattle.jx_ndjson.specs.inside.Steps.{HasNoLineFeed}
 use Rattle.jx_ndjson.proofs.Cuts.{longer, none-behind, parts-append, take-snoc}
 use Rattle.jx_ndjson.proofs.Steps.{lines-split, whole}
-use Rattle.jx_ndjson.proofs.Fronts.{whole_mark}
+use Rattle.jx_ndjson.proofs.Fronts.{beyond, whole_mark}
 use Rattle.jx_ends.specs.declared.exit.Exit.{Exit}
 use Rattle.jx_ends.specs.declared.exit.Exit.TheVariants.{Good}
 use Rattle.jx_line_values.specs.declared.task.LineValuesTask.{LineValuesTask}
-use Rattle.jx_line_values.specs.LineValues.{IsDue, IsGiven, LineGiven, LineValuesOutput, all_told, all_written, exit_by}
-use Rattle.jx_line_values.specs.inside.Adding.{IsAdded, exit_past}
-use Rattle.jx_line_values.specs.inside.Cutting.{CutterValue, HasTaken, bare, bare_bytes, bare_first, line_bytes}
+use Rattle.jx_line_values.specs.LineValues.{IsDue, IsGiven, IsGivenBy, LineGiven, LineValuesOutput, all_told, all_written, exit_by}
+use Rattle.jx_line_values.specs.inside.Adding.{IsAdded, exit_past, settings_with}
+use Rattle.jx_line_values.specs.inside.Cutting.{CutterValue, HasTaken, bare, bare_bytes, bare_first, line_bytes, line_mark}
+use Rattle.jx_line_values.proofs.Marks.{bare_mark, later_mark}
 
 -- ---- a byte order mark in front
 
@@ -119,6 +121,30 @@ bytes_are mark (q ∷ ps) p =
     let e : (suc (length ps) == 0) ≡ false = grind (arith, nat_tests) in
     ap (λ (b : Bool). cond b (bare_bytes mark p.bytes) p.bytes) e
 
+-- a part behind a line feed stands behind the offset 0
+behind_after : (xs : List ℕ) (at : ℕ) (ps : List Part) (p : Part) → behind_each is_line_feed at xs ≡ ps ++ p ∷ [] → at < p.at
+behind_after [] at [] p h = absurd (cc)
+behind_after [] at (q ∷ ps) p h = absurd (cc)
+behind_after (b ∷ xs) at ps p h = pick (is_line_feed b) ps h (λ qs k. let low = behind_after xs (suc at) qs p k in omega (arith, low))
+  where
+    pick : (t : Bool) (ps : List Part) → cond t (part (suc at) (before_first is_line_feed xs) ∷ behind_each is_line_feed (suc at) xs) (behind_each is_line_feed (suc at) xs) ≡ ps ++ p ∷ []
+        → ((qs : List Part) → behind_each is_line_feed (suc at) xs ≡ qs ++ p ∷ [] → at < p.at) → at < p.at
+    pick true [] h more = let e : suc at ≡ p.at = ap (λ (x : Part). x.at) (let same : part (suc at) (before_first is_line_feed xs) ≡ p = cc in same) in omega (arith, e)
+    pick true (q ∷ ps) h more = more ps (cc)
+    pick false ps h more = more ps h
+
+-- what may stand in front of the last one
+marks_are : (mark : FrontMark) (bytes : List ℕ) (ps : List Part) (p : Part) → parts_by is_line_feed 0 bytes ≡ ps ++ p ∷ [] → line_mark mark (length ps) p.bytes ≡ mark_at mark (last_bare mark ps p).at
+marks_are mark bytes [] p h = bare_mark mark p.bytes
+marks_are mark bytes (q ∷ ps) p h =
+    later_mark mark (suc (length ps)) p.bytes (omega arith)
+    ∙ sym (beyond mark p.at (behind_after bytes 0 ps p (cc)))
+
+mark_is : (mark : FrontMark) (bytes : List ℕ) (ended : ℕ) (kept : List ℕ) (ps : List Part) (p : Part) → parts_by is_line_feed 0 bytes ≡ ps ++ p ∷ [] → ended ≡ length ps → kept ≡ p.bytes
+    → line_mark mark ended kept ≡ mark_at mark (last_bare mark ps p).at
+mark_is mark bytes ended kept ps p h count is =
+    ap (λ (n : ℕ). line_mark mark n kept) count ∙ ap (line_mark mark (length ps)) is ∙ marks_are mark bytes ps p h
+
 -- ---- the lines of an input
 
 ended-snoc : (n : ℕ) (ps : List Part) (p : Part) → ended_from n (ps ++ p ∷ []) ≡ ended_from n ps ++ line (n + length ps) p true ∷ []
@@ -172,11 +198,15 @@ one_more_said : (given : List LineGiven) (g : LineGiven) → all_told (given ++ 
 one_more_said given g =
     flat_map-append (λ (x : LineGiven). x.told) given (g ∷ []) ∙ ap (λ (xs : List ℕ). all_told given ++ xs) (append-nil g.told)
 
--- where a line stands is of no account
-given_anywhere : (task : LineValuesTask) (n m : ℕ) (p : Part) (bytes : List ℕ) (e : Bool) (g : LineGiven) → n ≡ m → bytes ≡ p.bytes → IsGiven task (line n (part 0 bytes) e) g → IsGiven task (line m p e) g
-given_anywhere task n m p bytes e g same is h =
-    let k : IsGiven task (line m (part 0 p.bytes) e) g = subst (λ (x : ℕ). IsGiven task (line x (part 0 p.bytes) e) g) same (subst (λ (xs : List ℕ). IsGiven task (line n (part 0 xs) e) g) is h) in
-    record { verdict = k.verdict; is_verdict = k.is_verdict; gives = k.gives }
+-- a line by itself is the line where it stands
+given_there : (task : LineValuesTask) (mark : FrontMark) (n m : ℕ) (p : Part) (bytes : List ℕ) (e : Bool) (g : LineGiven) → n ≡ m → bytes ≡ p.bytes → mark ≡ mark_at task.settings.mark p.at
+    → IsGivenBy (settings_with task mark) task (line n (part 0 bytes) e) g → IsGiven task (line m p e) g
+given_there task mark n m p bytes e g same is there h =
+    let k : IsGivenBy (settings_with task mark) task (line m (part 0 p.bytes) e) g =
+    subst (λ (x : ℕ). IsGivenBy (settings_with task mark) task (line x (part 0 p.bytes) e) g) same (subst (λ (xs : List ℕ). IsGivenBy (settings_with task mark) task (line n (part 0 xs) e) g) is h) in
+    let v : IsVerdictOn (line m (part 0 p.bytes) e) (settings_at task.settings p.at) k.verdict =
+    subst (λ (f : FrontMark). IsVerdictOn (line m (part 0 p.bytes) e) (settings_with task f) k.verdict) there k.is_verdict in
+    record { verdict = k.verdict; is_verdict = v; gives = k.gives }
 
 -- ---- bytes are taken
 
@@ -209,7 +239,7 @@ behind given ready more all h = sym (append_assoc given ready more) ∙ ap (λ (
 
 -- a line feed, which ends one
 pub ends_line : (task : LineValuesTask) (bytes given said : List ℕ) (number : ℕ) (old new : CutterValue) → HasTaken task bytes given said old → number ≡ suc old.ended
-    → IsAdded task (line number (part 0 (line_bytes task.settings.mark old.ended old.kept)) true) old.ready new.ready old.told new.told
+    → IsAdded task (line_mark task.settings.mark old.ended old.kept) (line number (part 0 (line_bytes task.settings.mark old.ended old.kept)) true) old.ready new.ready old.told new.told
     → new.kept ≡ [] → new.ended ≡ number → new.exit ≡ old.exit → HasTaken task (bytes ++ 0x0a ∷ []) given said new
 ends_line task bytes given said number old new h is added kept ended exit =
     let mark : FrontMark = task.settings.mark in
@@ -235,8 +265,11 @@ ends_line task bytes given said number old new h is added kept ended exit =
       lines = h.lines ++ g ∷ [];
       are_given =
           subst (λ (ls : List Line). AllZip (IsGiven task) ls (h.lines ++ g ∷ [])) (sym (ap (ended_from 1) (bare_split mark h.ended h.last) ∙ ended-snoc 1 (bare_first mark h.ended) p))
-          (AllZip-append (IsGiven task) (ended_from 1 (bare_first mark h.ended)) (line (1 + length (bare_first mark h.ended)) p true ∷ []) h.lines (g ∷ []) h.are_given
-          (given_anywhere task number (1 + length (bare_first mark h.ended)) p (line_bytes mark old.ended old.kept) true g numbered bytes_same added.is_given, tt));
+          (AllZip-append (IsGiven task) (ended_from 1 (bare_first mark h.ended)) (line (1 + length (bare_first mark h.ended)) p true ∷ []) h.lines (g ∷ []) h.are_given (
+            given_there task (line_mark mark old.ended old.kept) number (1 + length (bare_first mark h.ended)) p (line_bytes mark old.ended old.kept) true g numbered bytes_same
+                (mark_is mark bytes old.ended old.kept h.ended h.last h.parts h.count h.kept) added.is_given,
+            tt,
+          ));
       written = ap (λ (xs : List ℕ). given ++ xs) added.written ∙ behind given old.ready g.written (all_written h.lines) h.written ∙ sym (one_more_written h.lines g);
       told = ap (λ (xs : List ℕ). said ++ xs) added.telling ∙ behind said old.told g.told (all_told h.lines) h.told ∙ sym (one_more_said h.lines g);
       exit = exit ∙ h.exit;
@@ -319,7 +352,7 @@ ends_so task bytes given said t exit h without e =
 -- with one
 pub ends_with : (task : LineValuesTask) (bytes given said ready told : List ℕ) (number : ℕ) (t : CutterValue) (exit : Exit) → HasTaken task bytes given said t
     → 0 < length (line_bytes task.settings.mark t.ended t.kept) → number ≡ suc t.ended
-    → IsAdded task (line number (part 0 (line_bytes task.settings.mark t.ended t.kept)) false) t.ready ready t.told told
+    → IsAdded task (line_mark task.settings.mark t.ended t.kept) (line number (part 0 (line_bytes task.settings.mark t.ended t.kept)) false) t.ready ready t.told told
     → exit ≡ exit_past t.exit told → LineValuesOutput task bytes (given ++ ready) (said ++ told) exit
 ends_with task bytes given said ready told number t exit h some is added e =
     let mark : FrontMark = task.settings.mark in
@@ -336,8 +369,11 @@ ends_with task bytes given said ready told number t exit h some is added e =
           subst (λ (ls : List Line). AllZip (IsGiven task) ls (h.lines ++ g ∷ []))
           (sym (lines_are mark bytes h.ended h.last h.parts
           ∙ ap (λ (b : Bool). ended_from 1 (bare_first mark h.ended) ++ cond b (line (1 + length h.ended) p false ∷ []) []) filled))
-          (AllZip-append (IsGiven task) (ended_from 1 (bare_first mark h.ended)) (line (1 + length h.ended) p false ∷ []) h.lines (g ∷ []) h.are_given
-          (given_anywhere task number (1 + length h.ended) p (line_bytes mark t.ended t.kept) false g numbered bytes_same added.is_given, tt));
+          (AllZip-append (IsGiven task) (ended_from 1 (bare_first mark h.ended)) (line (1 + length h.ended) p false ∷ []) h.lines (g ∷ []) h.are_given (
+            given_there task (line_mark mark t.ended t.kept) number (1 + length h.ended) p (line_bytes mark t.ended t.kept) false g numbered bytes_same
+                (mark_is mark bytes t.ended t.kept h.ended h.last h.parts h.count h.kept) added.is_given,
+            tt,
+          ));
       written = ap (λ (xs : List ℕ). given ++ xs) added.written ∙ behind given t.ready g.written (all_written h.lines) h.written ∙ sym (one_more_written h.lines g);
       told = ap (λ (xs : List ℕ). said ++ xs) added.telling ∙ behind said t.told g.told (all_told h.lines) h.told ∙ sym (one_more_said h.lines g);
       ends = exits said told t.exit exit h.exit e;

@@ -4,3 +4,4 @@ pub mod Marks
 pub mod Spelt
 pub mod Verdicts
 pub mod Writes
+pub mod InFront

@@ -1,5 +1,6 @@
 -- How many bytes a byte order mark takes, by what stands in front of a text.
-use Rattle.std.proofs.Common.{◌≡◌, ℕ, ◌==◌, List, length, Bool, true, false, cond, refl, sym, ap, arith}
+use Rattle.std.proofs.Common.{◌≡◌, ℕ, ◌<◌, ◌==◌, List, drop, length, Bool, true, false, cond, refl, sym, ap, arith}
+use Rattle.std.specs.Prelude.{if◌then◌else◌}
 use Rattle.std.proofs.lemmas.Bool.Decides.{nat_tests}
 use Rattle.jx_run.specs.declared.texts.settings.Front.TheVariants as seen
 use Rattle.jx_run.specs.declared.texts.settings.FrontMark.{FrontMark}
@@ -8,7 +9,9 @@ use Rattle.jx_run.specs.declared.texts.verdict.Refusal.{Refusal}
 use Rattle.jx_run.specs.declared.texts.verdict.Refusal.TheVariants.{Stopped, Truncated}
 use Rattle.jx_run.specs.Front.{agreed, front_of}
 use Rattle.jx_run.specs.Settings.{byte_order_mark}
+use Rattle.jx_ndjson.specs.Answers.{mark_at}
 use Rattle.jx_ndjson.specs.Lines.{mark_length}
+use Rattle.jx_line_values.specs.inside.Cutting.{line_bytes, line_mark}
 
 not_both : (k : ℕ) → (k == 0) ≡ true → (k == 3) ≡ false
 not_both k h = let is : k ≡ 0 = grind (arith, nat_tests) in ap (λ (x : ℕ). x == 3) is
@@ -42,3 +45,33 @@ none_skipped Ignored text refusal h =
     let k : ℕ = agreed text byte_order_mark in
     let e : taken (k == 3) ≡ taken false = none_by k (length text) (k == 0) (k == 3) (k == length text) refusal h in
     sym e
+
+-- ---- what may stand in front of a line
+
+-- where a mark was taken off, none may
+pub bare_mark : (mark : FrontMark) (text : List ℕ) → (if mark_length mark text == 0 then mark else Refused) ≡ mark_at mark (mark_length mark text)
+bare_mark Refused text = refl
+bare_mark Ignored text = pick (agreed text byte_order_mark == 3)
+  where
+    pick : (t : Bool) → (if taken t == 0 then Ignored else Refused) ≡ mark_at Ignored (taken t)
+    pick true = refl
+    pick false = refl
+
+-- none stands there
+pub none_left : (mark : FrontMark) (ended : ℕ) (kept : List ℕ) → mark_length (line_mark mark ended kept) (line_bytes mark ended kept) ≡ 0
+none_left mark ended kept = pick mark (ended == 0)
+  where
+    first : (t : Bool) → (agreed kept byte_order_mark == 3) ≡ t → mark_length (if taken t == 0 then Ignored else Refused) (drop (taken t) kept) ≡ 0
+    first true e = refl
+    first false e = ap taken e
+
+    pick : (m : FrontMark) (z : Bool) → mark_length (if z then (if mark_length m kept == 0 then m else Refused) else Refused) (if z then drop (mark_length m kept) kept else kept) ≡ 0
+    pick Refused true = refl
+    pick Refused false = refl
+    pick Ignored true = first (agreed kept byte_order_mark == 3) refl
+    pick Ignored false = refl
+
+pub later_mark : (mark : FrontMark) (ended : ℕ) (kept : List ℕ) → 0 < ended → line_mark mark ended kept ≡ Refused
+later_mark mark ended kept h =
+    let e : (ended == 0) ≡ false = grind (arith, nat_tests) in
+    ap (λ (b : Bool). if b then (if mark_length mark kept == 0 then mark else Refused) else Refused) e

@@ -1,14 +1,18 @@
 -- What is added for a line, by the verdict on its bytes and by what was found.
-use Rattle.std.proofs.Common.{◌≡◌, ℕ, suc, List, [], ◌∷◌, ◌++◌, length, map, Bool, true, false, refl, sym, ap, subst, ◌∙◌}
+use Rattle.std.proofs.Common.{◌≡◌, ℕ, List, [], ◌∷◌, ◌++◌, map, Bool, true, false, refl, sym, ap, ◌∙◌}
 use Rattle.std.specs.Prelude.{◌&&◌, not, Ok, Err, OnOk, Result, if◌then◌else◌, is_ok, flat_map}
 use Rattle.std.specs.List.{AllZip}
+use Rattle.jx_run.specs.declared.texts.settings.FrontMark.{FrontMark}
+use Rattle.jx_run.specs.declared.texts.settings.Settings.{Settings}
 use Rattle.jx_run.specs.declared.texts.verdict.Refusal.{Refusal}
 use Rattle.jx_run.specs.declared.texts.verdict.Verdict.TheVariants as verdict
 use Rattle.jx_run.specs.Elements.{Part, part}
+use Rattle.jx_run.specs.Settings.{JudgedBy, a_text}
 use Rattle.jx_run.specs.Text.{IsDocument}
 use Rattle.jx_run.specs.Tree.{Tree}
 use Rattle.jx_run.specs.Unclosed.{ends_open}
-use Rattle.jx_run.specs.Verdict.{Judged, a_text}
+use Rattle.jx_run.proofs.Fronts.{plain}
+use Rattle.jx_run.proofs.LawProofs.{Verdicts}
 use Rattle.jx_run.proofs.OpenEnds.{element_shows}
 use Rattle.jx_index.specs.declared.find_fault.FindFault.{FindFault}
 use Rattle.jx_index.specs.declared.finder.Found.{Found}
@@ -19,9 +23,10 @@ use Rattle.jx_ndjson.specs.declared.judged_line.LineVerdict.{LineVerdict}
 use Rattle.jx_ndjson.specs.declared.judged_line.LineVerdict.TheVariants.{Accepted, Refused, MayBeCut, Blank}
 use Rattle.jx_ndjson.specs.Answers.{IsCut, are_blanks}
 use Rattle.jx_ndjson.specs.Lines.{line}
+use Rattle.jx_ndjson.proofs.Judging.{shows_by}
 use Rattle.jx_line_values.specs.declared.task.LineValuesTask.{LineValuesTask}
 use Rattle.jx_line_values.specs.LineValues.{LineGiven, none_given, pointers_of, tabbed, told_of_found, told_of_verdict, value_bytes, values_given}
-use Rattle.jx_line_values.specs.inside.Adding.{IsAdded, told_of_all, written_of}
+use Rattle.jx_line_values.specs.inside.Adding.{IsAdded, settings_with, told_of_all, written_of}
 
 -- ---- results
 
@@ -33,13 +38,6 @@ on_ok_both (Err e) f p q = tt
 pub on_ok_first : {A E X : Type 0} (r : Result A E) (x a b : X) → x ≡ (if is_ok r then a else b) → OnOk r (x ≡ a)
 on_ok_first (Ok y) x a b h = h
 on_ok_first (Err e) x a b h = tt
-
--- as many answers as pointers
-pub as_many : {A B : Type 0} (R : A → B → Type 0) (xs : List A) (ys : List B) → AllZip R xs ys → length xs ≡ length ys
-as_many R [] [] h = refl
-as_many R [] (y ∷ ys) h = absurd h
-as_many R (x ∷ xs) [] h = absurd h
-as_many R (x ∷ xs) (y ∷ ys) h = ap suc (as_many R xs ys h.1)
 
 -- ---- the verdict
 
@@ -58,12 +56,12 @@ closed true true h e = absurd (cc)
 closed true false h e = absurd (cc)
 closed false ended h e = refl
 
-module _ (task : LineValuesTask) (number : ℕ) (bytes : List ℕ) (is_ended : Bool) (ready longer told retold : List ℕ) where
+module _ (task : LineValuesTask) (mark : FrontMark) (number : ℕ) (bytes : List ℕ) (is_ended : Bool) (ready longer told retold : List ℕ) where
   abbrev here : Part
   here = part 0 bytes
 
   abbrev added : Type 0
-  added = IsAdded task (line number here is_ended) ready longer told retold
+  added = IsAdded task mark (line number here is_ended) ready longer told retold
 
   abbrev none_by : LineVerdict → LineGiven
   none_by v = none_given (pointers_of task) (told_of_verdict task.skips_blank number v)
@@ -71,10 +69,13 @@ module _ (task : LineValuesTask) (number : ℕ) (bytes : List ℕ) (is_ended : B
   abbrev limit : ℕ
   limit = task.settings.depth
 
+  abbrev by : Settings
+  by = settings_with task mark
+
   pub blank_added : are_blanks bytes ≡ true → longer ≡ ready ++ (none_by Blank).written → retold ≡ told ++ (none_by Blank).told → added
   blank_added blank w t = record { given = none_by Blank; is_given = record { verdict = Blank; is_verdict = blank; gives = refl }; written = w; telling = t }
 
-  pub refused_added : (refusal : Refusal) → are_blanks bytes ≡ false → Judged 0 bytes limit (verdict.Refused refusal)
+  pub refused_added : (refusal : Refusal) → are_blanks bytes ≡ false → JudgedBy by 0 bytes (verdict.Refused refusal)
       → longer ≡ ready ++ (none_by (Refused refusal)).written → retold ≡ told ++ (none_by (Refused refusal)).told → added
   refused_added refusal filled judged w t = record {
     given = none_by (Refused refusal);
@@ -87,8 +88,8 @@ module _ (task : LineValuesTask) (number : ℕ) (bytes : List ℕ) (is_ended : B
       → retold ≡ told ++ (none_by MayBeCut).told → added
   cut_added filled tree d may w t =
       let o = opens (ends_open bytes) is_ended may in
-      let cut : IsCut (line number here is_ended) limit =
-      (o.1, record { tree = tree; accepted = record { judged = a_text d; is_text = d }; unclosed = (element_shows here limit tree d).1 o.0 }) in
+      let cut : IsCut (line number here is_ended) by =
+      record { tree = tree; not_ended = o.1; is_text = plain by 0 bytes tree d; unclosed = (element_shows here limit tree d).1 o.0 } in
       record { given = none_by MayBeCut; is_given = record { verdict = MayBeCut; is_verdict = (filled, cut); gives = refl }; written = w; telling = t }
 
   -- ---- the values
@@ -112,16 +113,16 @@ module _ (task : LineValuesTask) (number : ℕ) (bytes : List ℕ) (is_ended : B
   told_are tree [] = refl
   told_are tree (pointer ∷ pointers) = ap (λ (xs : List ℕ). told_of_found number pointer (found_for tree pointer) ++ xs) (told_are tree pointers)
 
-  pub values_added : (found : List (Result Found FindFault)) → are_blanks bytes ≡ false → (tree : Tree) → IsDocument 0 bytes limit tree → (ends_open bytes && not is_ended) ≡ false
+  pub values_added : Verdicts → (found : List (Result Found FindFault)) → are_blanks bytes ≡ false → (tree : Tree) → IsDocument 0 bytes limit tree → (ends_open bytes && not is_ended) ≡ false
       → AllZip (λ (pointer : List ℕ) (one : Result Found FindFault). one ≡ found_for tree pointer) (pointers_of task) found → longer ≡ ready ++ written_of bytes found
       → retold ≡ told ++ told_of_all number (pointers_of task) found → added
-  values_added found filled tree d shut finds w t =
+  values_added law found filled tree d shut finds w t =
       let are = found_are tree (pointers_of task) found finds in
-      let uncut : IsCut (line number here is_ended) limit → ⊥ =
-      λ cut. not_true (sym (closed (ends_open bytes) is_ended shut cut.0) ∙ (element_shows here limit cut.1.tree cut.1.accepted.is_text).0 cut.1.unclosed) in
+      let uncut : IsCut (line number here is_ended) by → ⊥ =
+      λ cut. not_true (sym (closed (ends_open bytes) is_ended shut cut.not_ended) ∙ (shows_by law by here cut.tree cut.is_text).0 cut.unclosed) in
       record {
         given = values_given (pointers_of task) number bytes tree;
-        is_given = record { verdict = Accepted; is_verdict = (filled, a_text d, uncut); gives = (tree, d, refl) };
+        is_given = record { verdict = Accepted; is_verdict = (filled, a_text (plain by 0 bytes tree d), uncut); gives = (tree, d, refl) };
         written =
             w
             ∙ ap (λ (fs : List (Result Found FindFault)). ready ++ written_of bytes fs) are

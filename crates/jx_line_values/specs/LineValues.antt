@@ -1,6 +1,7 @@
 -- What is written and told for each line of JSON Lines: the values that pointers lead to in the line's text (RFC 6901).
 use Rattle.std.specs.Prelude.{◌≡◌, ℕ, List, [], ◌∷◌, ◌++◌, Bool, Some, Result, Ok, Err, codes, decimal, flat_map, if◌then◌else◌, map, slice_get, slice_range, string_bytes, take, All}
 use Rattle.std.specs.List.{AllZip}
+use Rattle.jx_run.specs.declared.texts.settings.Settings.{Settings}
 use Rattle.jx_run.specs.Elements.{part}
 use Rattle.jx_run.specs.Text.{IsDocument}
 use Rattle.jx_run.specs.Tree.{Tree}
@@ -14,7 +15,7 @@ use Rattle.jx_index.specs.Pointers.{IsPointer, tokens}
 use Rattle.jx_compact.specs.Compact.{compact}
 use Rattle.jx_ndjson.specs.declared.judged_line.LineVerdict.{LineVerdict}
 use Rattle.jx_ndjson.specs.declared.judged_line.LineVerdict.TheVariants.{Accepted, Refused, MayBeCut, Blank}
-use Rattle.jx_ndjson.specs.Answers.{IsVerdictOn}
+use Rattle.jx_ndjson.specs.Answers.{IsVerdictOn, settings_at}
 use Rattle.jx_ndjson.specs.Lines as lines
 use Rattle.jx_ndjson.specs.Lines.{Line, ended_lines}
 use Rattle.jx_ends.specs.declared.exit.Exit.{Exit}
@@ -42,12 +43,12 @@ told_of_found number pointer (Err fault) = told_words number (pointer ++ codes "
 
 -- ---- of one line
 
--- one behind another, a tab between
+-- one after another, a tab between
 abbrev pub tabbed : List (List ℕ) → List ℕ
 tabbed [] = []
 tabbed (value ∷ values) = value ++ flat_map (λ (more : List ℕ). 0x09 ∷ more) values
 
--- what is written for a line, and what is told of it
+-- the output for a line, and the messages on it
 pub record LineGiven : Type 0 where
   pub written : List ℕ
   pub told : List ℕ
@@ -64,7 +65,7 @@ values_given pointers number bytes tree =
 abbrev pub none_given : List (List ℕ) → List ℕ → LineGiven
 none_given pointers told = record { written = line (tabbed (map (λ (pointer : List ℕ). []) pointers)); told = told }
 
--- why there is none; of a blank line that may be skipped nothing is told
+-- why there is none; of an empty line that may be skipped there is no message
 abbrev pub told_of_verdict : Bool → ℕ → LineVerdict → List ℕ
 told_of_verdict skips number Accepted = []
 told_of_verdict skips number (Refused refusal) = told_words number (refusal_words refusal)
@@ -84,11 +85,15 @@ GivesBy task l Blank given = given ≡ none_given (pointers_of task) (told_of_ve
 abbrev pub alone : Line → Line
 alone l = lines.line l.number (part 0 l.part.bytes) l.is_ended
 
--- by the verdict on the line by itself
-pub record IsGiven (task : LineValuesTask) (l : Line) (given : LineGiven) : Type 0 where
+-- by the verdict on the line by itself, by such settings
+pub record IsGivenBy (settings : Settings) (task : LineValuesTask) (l : Line) (given : LineGiven) : Type 0 where
   pub verdict : LineVerdict
-  pub is_verdict : IsVerdictOn (alone l) task.settings.depth verdict
+  pub is_verdict : IsVerdictOn (alone l) settings verdict
   pub gives : GivesBy task l verdict given
+
+-- an ignored byte order mark may stand in front of the first line alone
+abbrev pub IsGiven : LineValuesTask → Line → LineGiven → Type 0
+IsGiven task l given = IsGivenBy (settings_at task.settings l.part.at) task l given
 
 -- ---- of an input
 
@@ -98,7 +103,7 @@ all_written given = flat_map (λ (g : LineGiven). g.written) given
 abbrev pub all_told : List LineGiven → List ℕ
 all_told given = flat_map (λ (g : LineGiven). g.told) given
 
--- good where nothing is told
+-- good where there is no message
 abbrev pub exit_by : List ℕ → Exit
 exit_by [] = Good
 exit_by (byte ∷ tells) = Bad
@@ -110,7 +115,7 @@ pub record IsDue (task : LineValuesTask) (input output tells : List ℕ) : Type 
   pub written : output ≡ all_written given
   pub told : tells ≡ all_told given
 
--- the whole output for an input, all that is told of it, and the exit: for each line, in order
+-- the whole output for an input, all messages on it, and the status: for each line, in order
 pub record LineValuesOutput (task : LineValuesTask) (input output tells : List ℕ) (exit : Exit) : Type 0 where
   pub given : List LineGiven
   pub are_given : AllZip (IsGiven task) (lines.lines task.settings.mark input) given

@@ -1,4 +1,4 @@
--- What a report on the values of lines does to the bytes of its ends.
+-- What a report on the values of lines does to the bytes of its reader and its writers.
 use Rattle.std.specs.Prelude.{◌≡◌, ◌⊎◌, ℕ, List, ◌++◌, Option, Bool, false}
 use Rattle.std.specs.Io.KnownBytes.{Appends, Consumes}
 use Rattle.jx_ends.specs.declared.exit.Exit.{Exit}
@@ -6,7 +6,7 @@ use Rattle.jx_ends.specs.Ends.{ReadsToEnd, AppendsBeginning}
 use Rattle.jx_line_values.specs.declared.task.LineValuesTask.{LineValuesTask}
 use Rattle.jx_line_values.specs.LineValues.{IsDue, LineValuesOutput}
 
--- the reader gave all that it had, the writer got the whole output for it, and what is told was told unless telling failed
+-- the reader gave all that it had, the writer got the whole output for it, and the messages were written unless such a write failed
 pub record ReportsLineValues (task : LineValuesTask) (unread left written grown : Option (List ℕ)) (is_lost : Bool) (told retold : Option (List ℕ)) (exit : Exit) : Type 0 where
   pub text : List ℕ
   pub output : List ℕ
@@ -16,7 +16,7 @@ pub record ReportsLineValues (task : LineValuesTask) (unread left written grown 
   pub wrote : Appends written grown output
   pub says : is_lost ≡ false → Appends told retold tells
 
--- the writer got what is due of the bytes that were read, and what is told of them was told unless telling failed
+-- the writer got what is due of the bytes that were read, and the messages on them were written unless such a write failed
 pub record WroteDue (task : LineValuesTask) (unread left written grown : Option (List ℕ)) (is_lost : Bool) (told retold : Option (List ℕ)) : Type 0 where
   pub text : List ℕ
   pub output : List ℕ
@@ -37,8 +37,8 @@ pub record WroteLines (task : LineValuesTask) (unread left written grown : Optio
   pub wrote : Appends written grown output
   pub says : is_lost ≡ false → Appends told retold tells
 
--- the writer got a beginning of what is due of the bytes that were read, or of the whole output for them, and not all; of what
--- is told of them a beginning was told
+-- the writer got a beginning of what is due of the bytes that were read, or of the whole output for them, and not all; of the messages
+-- on them a beginning was written
 pub record WroteInPart (task : LineValuesTask) (unread left written grown : Option (List ℕ)) (is_lost : Bool) (told retold : Option (List ℕ)) : Type 0 where
   pub text : List ℕ
   pub output : List ℕ

@@ -1,5 +1,4 @@
 -- What the contracts of this crate's own functions cite, and no public one.
 pub mod Adding
 pub mod Cutting
-pub mod Looking
 pub mod Steps

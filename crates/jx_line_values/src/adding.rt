@@ -1,4 +1,4 @@
-// The values of one line, one behind another.
+// The values of one line, one after another.
 ghost use Rattle.std.specs.Prelude.{◌≡◌, ◌<◌, ◌++◌, ◌∷◌, Some, List, ℕ, [], length, map, slice_get, slice_range, string_bytes, OnOk};
 ghost use Rattle.jx_compact.specs.Compact.{compact};
 ghost use Rattle.jx_line_values.specs.LineValues.{tabbed, value_bytes};

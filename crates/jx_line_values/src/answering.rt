@@ -1,23 +1,30 @@
-// The values of one line that is held.
-ghost use Rattle.std.specs.Prelude.{◌≡◌, ◌++◌, ◌&&◌, false, length, not, OnOk};
+// The values of one line that is kept in memory.
+ghost use Rattle.std.specs.Prelude.{◌≡◌, ◌≤◌, ◌++◌, ◌&&◌, false, length, not, slice_range, IfNone, IfSome, OnOk};
+ghost use Rattle.jx_run.specs.declared.texts.settings.FrontMark.{FrontMark};
 ghost use Rattle.jx_run.specs.Elements.{part};
+ghost use Rattle.jx_run.specs.declared.texts.verdict.Verdict.{Verdict};
+ghost use Rattle.jx_run.specs.Settings.{JudgedBy};
 ghost use Rattle.jx_run.specs.Unclosed.{ends_open};
+ghost use Rattle.jx_run.specs.Verdict.{Judged};
 ghost use Rattle.jx_lex.specs.Uneventful.{is_blank};
 ghost use Rattle.jx_index.specs.Found.{AreFoundIn};
+ghost use Rattle.jx_find.specs.PointerTrie.{IsTrieOf, alone};
 ghost use Rattle.jx_ndjson.specs.Answers.{are_blanks};
-ghost use Rattle.jx_ndjson.specs.Lines.{line};
+ghost use Rattle.jx_ndjson.specs.Lines.{line, mark_length};
+ghost use Rattle.jx_line_values.specs.declared.task.LineValuesTask.{LineValuesTask};
 ghost use Rattle.jx_line_values.specs.LineValues.{none_given, pointers_of, told_of_verdict};
-ghost use Rattle.jx_line_values.specs.inside.Adding.{IsAdded, told_of_all, written_of};
-ghost use Rattle.jx_line_values.specs.inside.Looking.{IsReady, alone};
+ghost use Rattle.jx_line_values.specs.inside.Adding.{IsAdded, settings_with, told_of_all, written_of};
 
 use crate::adding::{add_no_values, add_values};
-use crate::looking::LookUp;
 use crate::task::LineValuesTask;
 use crate::telling::{add_all_found, add_verdict};
-use jx_find::find_each_through;
-use jx_index::{FindFault, Found, names_are_refused_by_rows};
+use jx_find::{Findings, PointerTrie};
+use jx_index::{FindFault, Found};
 use jx_ndjson::LineVerdict;
-use jx_run::{Settings, a_refused_mark_changes_nothing, ends_open_behind};
+use jx_run::{
+    Front, FrontMark, Refusal, Verdict, ends_open_behind, front, reader_and_grammar,
+    verdicts_with_a_refused_mark,
+};
 use std::alloc::{AllocError, Global};
 
 /// A space, a tab, a line feed or a carriage return (RFC 8259, section 2).
@@ -27,7 +34,7 @@ fn is_blank(byte: u8) -> bool
     byte == b' ' || byte == b'\t' || byte == b'\n' || byte == b'\r'
 }
 
-/// Whether there is no byte but blanks.
+/// Whether there is no byte but white space.
 fn are_blanks(bytes: &[u8]) -> bool
     ensures { result ≡ are_blanks bytes.now }
 {
@@ -75,7 +82,7 @@ fn add_found_values(
 fn may_go_on(bytes: &[u8], is_ended: bool) -> bool
     ensures { result ≡ (ends_open bytes.now && not is_ended) }
 {
-    ends_open_behind(false, bytes) && !is_ended
+    !is_ended && ends_open_behind(false, bytes)
 }
 
 /// Adds the values of an accepted line, or none where it may have been cut.
@@ -90,44 +97,82 @@ fn add_accepted(
 ) -> Result<(), AllocError>
     requires filled { are_blanks bytes.now ≡ false }
     requires found { AreFoundIn (alone task.now.settings.depth) bytes.now (pointers_of task.now) found.now }
-    ensures { OnOk result (IsAdded task.now (line number (part 0 bytes.now) is_ended) ready.old.items ready.new.items told.old.items told.new.items) }
+    ensures { OnOk result ((mark : FrontMark) → IsAdded task.now mark (line number (part 0 bytes.now) is_ended) ready.old.items ready.new.items told.old.items told.new.items) }
 {
-    a_refused_mark_changes_nothing();
+    reader_and_grammar();
+    verdicts_with_a_refused_mark();
     if may_go_on(bytes, is_ended) {
         return add_none(ready, told, task, number, LineVerdict::MayBeCut);
     }
     add_found_values(ready, told, task, number, bytes, found)
 }
 
-/// Adds what is written for a line and what is told of it. The look-up is that of the task's pointers.
+/// Why a line is refused that begins with a part of a byte order mark, where one is ignored. No whole one stands in front.
+fn refused_front(bytes: &[u8], mark: FrontMark) -> Option<Refusal>
+    requires { mark_length mark bytes.now ≡ 0 }
+    ensures some { IfSome result (λ refusal. (task : LineValuesTask) → JudgedBy (settings_with task mark) 0 bytes.now (Verdict.Refused refusal)) }
+    ensures none { IfNone result ((task : LineValuesTask) (verdict : Verdict) → Judged 0 bytes.now task.settings.depth verdict → JudgedBy (settings_with task mark) 0 bytes.now verdict) }
+{
+    match front(bytes, mark) {
+        Front::Skip(_) => None,
+        Front::Refused(refusal) => Some(refusal),
+    }
+}
+
+/// A line in front of a slice. The bytes after it are only room for a reader that looks at many bytes at a time.
+#[derive(Clone, Copy)]
+pub(crate) struct LineInFront<'a> {
+    pub number: usize,
+    pub slice: &'a [u8],
+    /// How many bytes it has.
+    pub len: usize,
+    /// Whether a line feed ends it.
+    pub is_ended: bool,
+    /// What becomes of a byte order mark that it begins with.
+    pub mark: FrontMark,
+}
+
+/// Adds the output for a line and the messages on it. The pointers that are looked up are those of the task.
 pub(crate) fn add_line(
     alloc: Global,
     ready: &mut Vec<u8>,
     told: &mut Vec<u8>,
+    findings: &mut Findings,
     task: &LineValuesTask,
-    look_up: LookUp,
-    number: usize,
-    bytes: &[u8],
-    is_ended: bool,
+    trie: &PointerTrie,
+    at: LineInFront,
 ) -> Result<(), AllocError>
-    requires { IsReady (pointers_of task.now) look_up }
-    ensures { OnOk result (IsAdded task.now (line number (part 0 bytes.now) is_ended) ready.old.items ready.new.items told.old.items told.new.items) }
+    requires trie { IsTrieOf (pointers_of task.now) trie.now }
+    requires within { at.len ≤ length at.slice.now }
+    requires bare { mark_length at.mark (slice_range at.slice.now 0 at.len) ≡ 0 }
+    ensures { OnOk result (IsAdded task.now at.entry.mark (line at.entry.number (part 0 (slice_range at.entry.slice.now 0 at.entry.len)) at.entry.is_ended) ready.old.items ready.new.items told.old.items told.new.items) }
 {
-    names_are_refused_by_rows();
-    a_refused_mark_changes_nothing();
+    let LineInFront {
+        number,
+        slice,
+        len,
+        is_ended,
+        mark,
+    } = at;
+    let bytes = &slice[0..len];
     if are_blanks(bytes) {
         return add_none(ready, told, task, number, LineVerdict::Blank);
     }
-    let settings = Settings::from(task.settings.depth);
-    match find_each_through(
-        alloc,
-        bytes,
-        &settings,
-        look_up.edges,
-        look_up.starts,
-        look_up.pointers,
-    )? {
-        Err(refusal) => add_none(ready, told, task, number, LineVerdict::Refused(refusal)),
-        Ok(found) => add_accepted(ready, told, task, number, bytes, is_ended, &found),
+    match refused_front(bytes, mark) {
+        Some(refusal) => add_none(ready, told, task, number, LineVerdict::Refused(refusal)),
+        None => match findings.read(alloc, slice, len, task.settings.depth, trie)? {
+            Verdict::Refused(refusal) => {
+                add_none(ready, told, task, number, LineVerdict::Refused(refusal))
+            }
+            Verdict::Accepted => add_accepted(
+                ready,
+                told,
+                task,
+                number,
+                bytes,
+                is_ended,
+                findings.found(),
+            ),
+        },
     }
 }

@@ -1,17 +1,17 @@
 // The values of lines of an input that comes slice by slice.
 ghost use Rattle.std.specs.Prelude.{◌≡◌, ◌<◌, ◌≤◌, ◌++◌, ◌∷◌, ℕ, List, [], IfOk, OnOk, length, take};
+ghost use Rattle.jx_find.specs.PointerTrie.{IsTrieOf};
 ghost use Rattle.jx_ndjson.specs.Lines.{mark_length};
 ghost use Rattle.jx_ndjson.specs.inside.Steps.{HasNoLineFeed};
 ghost use Rattle.jx_line_values.specs.declared.task.LineValuesTask.{LineValuesTask};
 ghost use Rattle.jx_line_values.specs.LineValues.{LineValuesOutput, pointers_of};
-ghost use Rattle.jx_line_values.specs.inside.Cutting.{HasTaken, bare_bytes, line_bytes};
-ghost use Rattle.jx_line_values.specs.inside.Looking.{IsReady};
+ghost use Rattle.jx_line_values.specs.inside.Cutting.{HasTaken, bare_bytes, line_bytes, line_mark};
 
-use crate::answering::add_line;
-use crate::looking::LookUp;
+use crate::answering::{LineInFront, add_line};
 use crate::task::LineValuesTask;
 use crate::telling::exit_past;
 use jx_ends::Exit;
+use jx_find::{Findings, PointerTrie};
 use jx_run::{Front, FrontMark, front};
 use memchr::memchr;
 use std::alloc::{AllocError, Global};
@@ -36,7 +36,7 @@ fn bare_line(mark: FrontMark, line: &[u8]) -> &[u8]
     &line[count..]
 }
 
-/// A line behind so many others.
+/// A line after so many others.
 fn line_at(mark: FrontMark, ended: usize, line: &[u8]) -> &[u8]
     ensures { result.now ≡ line_bytes mark ended line.now }
 {
@@ -44,6 +44,17 @@ fn line_at(mark: FrontMark, ended: usize, line: &[u8]) -> &[u8]
         bare_line(mark, line)
     } else {
         line
+    }
+}
+
+/// What becomes of a byte order mark that it begins with then.
+fn line_mark(mark: FrontMark, ended: usize, line: &[u8]) -> FrontMark
+    ensures { result ≡ line_mark mark ended line.now }
+{
+    if ended == 0 && mark_length(mark, line) == 0 {
+        mark
+    } else {
+        FrontMark::Refused
     }
 }
 
@@ -55,6 +66,7 @@ pub(crate) struct LineCutter {
     ready: Vec<u8>,
     told: Vec<u8>,
     exit: Exit,
+    findings: Findings,
 }
 
 impl Model for LineCutter {
@@ -78,18 +90,61 @@ impl LineCutter {
             ready: Vec::new(alloc),
             told: Vec::new(alloc),
             exit: Exit::Good,
+            findings: Findings::new(alloc),
         }
     }
 
-    /// Ends the line that goes on by a line feed. Memory is refused too where its number would be too large.
+    /// Ends the line that goes on by a line feed. It is also out of memory where its number would be too large.
     fn end_line(
         &mut self,
         alloc: Global,
         task: &LineValuesTask,
-        look_up: LookUp,
+        trie: &PointerTrie,
     ) -> Result<(), AllocError>
-        requires { IsReady (pointers_of task.now) look_up }
+        requires { IsTrieOf (pointers_of task.now) trie.now }
         ensures { OnOk result ((bytes given said : List ℕ) → HasTaken task.now bytes given said self.old → HasTaken task.now (bytes ++ 0x0a ∷ []) given said self.new) }
+    {
+        if self.ended == usize::MAX {
+            return Err(AllocError);
+        }
+        let line = line_at(task.settings.mark, self.ended, &self.kept);
+        let mark = line_mark(task.settings.mark, self.ended, &self.kept);
+        add_line(
+            alloc,
+            &mut self.ready,
+            &mut self.told,
+            &mut self.findings,
+            task,
+            trie,
+            LineInFront {
+                number: self.ended + 1,
+                slice: line,
+                len: line.len(),
+                is_ended: true,
+                mark,
+            },
+        )?;
+        self.ended += 1;
+        self.kept.clear();
+        Ok(())
+    }
+
+    /// Takes a whole line in front of a slice, and the line feed that ends it, after another line. Memory is
+    /// refused too where its number would be too large.
+    fn take_line(
+        &mut self,
+        alloc: Global,
+        task: &LineValuesTask,
+        trie: &PointerTrie,
+        slice: &[u8],
+        len: usize,
+    ) -> Result<(), AllocError>
+        requires trie { IsTrieOf (pointers_of task.now) trie.now }
+        requires within { len ≤ length slice.now }
+        requires line { HasNoLineFeed (take len slice.now) }
+        requires behind { 0 < self.old.ended }
+        requires none_kept { length self.old.kept ≡ 0 }
+        ensures { OnOk result ((bytes given said : List ℕ) → HasTaken task.now bytes given said self.old → HasTaken task.now ((bytes ++ take len slice.now) ++ 0x0a ∷ []) given said self.new) }
     {
         if self.ended == usize::MAX {
             return Err(AllocError);
@@ -98,14 +153,18 @@ impl LineCutter {
             alloc,
             &mut self.ready,
             &mut self.told,
+            &mut self.findings,
             task,
-            look_up,
-            self.ended + 1,
-            line_at(task.settings.mark, self.ended, &self.kept),
-            true,
+            trie,
+            LineInFront {
+                number: self.ended + 1,
+                slice,
+                len,
+                is_ended: true,
+                mark: FrontMark::Refused,
+            },
         )?;
         self.ended += 1;
-        self.kept.clear();
         Ok(())
     }
 
@@ -117,15 +176,36 @@ impl LineCutter {
         self.kept.extend_from_slice(bytes)
     }
 
+    /// Takes the bytes in front of a slice and the line feed behind them. A line that stands there whole is read there.
+    fn take_fed(
+        &mut self,
+        alloc: Global,
+        task: &LineValuesTask,
+        trie: &PointerTrie,
+        slice: &[u8],
+        len: usize,
+    ) -> Result<(), AllocError>
+        requires trie { IsTrieOf (pointers_of task.now) trie.now }
+        requires within { len ≤ length slice.now }
+        requires line { HasNoLineFeed (take len slice.now) }
+        ensures { OnOk result ((bytes given said : List ℕ) → HasTaken task.now bytes given said self.old → HasTaken task.now ((bytes ++ take len slice.now) ++ 0x0a ∷ []) given said self.new) }
+    {
+        if self.ended > 0 && self.kept.is_empty() {
+            return self.take_line(alloc, task, trie, slice, len);
+        }
+        self.keep(&slice[..len])?;
+        self.end_line(alloc, task, trie)
+    }
+
     /// Takes a slice up to and with its first line feed, or all of it, and answers how many bytes those are.
     fn take_step(
         &mut self,
         alloc: Global,
         task: &LineValuesTask,
-        look_up: LookUp,
+        trie: &PointerTrie,
         slice: &[u8],
     ) -> Result<usize, AllocError>
-        requires { IsReady (pointers_of task.now) look_up }
+        requires { IsTrieOf (pointers_of task.now) trie.now }
         ensures within { IfOk result (λ taken. taken ≤ length slice.now) }
         ensures some { IfOk result (λ taken. 0 < length slice.now → 0 < taken) }
         ensures taken { IfOk result (λ taken. (bytes given said : List ℕ) → HasTaken task.now bytes given said self.old → HasTaken task.now (bytes ++ take taken slice.now) given said self.new) }
@@ -136,27 +216,26 @@ impl LineCutter {
                 Ok(slice.len())
             }
             Some(at) => {
-                self.keep(&slice[..at])?;
-                self.end_line(alloc, task, look_up)?;
+                self.take_fed(alloc, task, trie, slice, at)?;
                 Ok(at + 1)
             }
         }
     }
 
-    /// Takes a slice behind all bytes that it has taken. Only want of memory is refused.
+    /// Takes a slice after all bytes that it has taken. Fails only when out of memory.
     pub fn feed(
         &mut self,
         alloc: Global,
         task: &LineValuesTask,
-        look_up: LookUp,
+        trie: &PointerTrie,
         slice: &[u8],
     ) -> Result<(), AllocError>
-        requires { IsReady (pointers_of task.now) look_up }
+        requires { IsTrieOf (pointers_of task.now) trie.now }
         ensures { OnOk result ((bytes given said : List ℕ) → HasTaken task.now bytes given said self.old → HasTaken task.now (bytes ++ slice.now) given said self.new) }
     {
         let mut at = 0;
         while at < slice.len() {
-            at += self.take_step(alloc, task, look_up, &slice[at..])?;
+            at += self.take_step(alloc, task, trie, &slice[at..])?;
         }
         Ok(())
     }
@@ -168,7 +247,7 @@ impl LineCutter {
         &self.ready
     }
 
-    /// What waits to be told.
+    /// The messages that wait.
     pub fn told(&self) -> &[u8]
         ensures { result.now ≡ self.now.told }
     {
@@ -191,9 +270,9 @@ impl LineCutter {
         &mut self,
         alloc: Global,
         task: &LineValuesTask,
-        look_up: LookUp,
+        trie: &PointerTrie,
     ) -> Result<Exit, AllocError>
-        requires { IsReady (pointers_of task.now) look_up }
+        requires { IsTrieOf (pointers_of task.now) trie.now }
         ensures { IfOk result (λ exit. (bytes given said : List ℕ) → HasTaken task.now bytes given said self.old
             → LineValuesOutput task.now bytes (given ++ self.new.ready) (said ++ self.new.told) exit) }
     {
@@ -201,6 +280,7 @@ impl LineCutter {
             return Err(AllocError);
         }
         let line = line_at(task.settings.mark, self.ended, &self.kept);
+        let mark = line_mark(task.settings.mark, self.ended, &self.kept);
         if line.is_empty() {
             return Ok(exit_past(self.exit, &self.told));
         }
@@ -208,11 +288,16 @@ impl LineCutter {
             alloc,
             &mut self.ready,
             &mut self.told,
+            &mut self.findings,
             task,
-            look_up,
-            self.ended + 1,
-            line,
-            false,
+            trie,
+            LineInFront {
+                number: self.ended + 1,
+                slice: line,
+                len: line.len(),
+                is_ended: false,
+                mark,
+            },
         )?;
         Ok(exit_past(self.exit, &self.told))
     }

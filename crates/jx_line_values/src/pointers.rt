@@ -14,7 +14,7 @@ pub struct Misspelt<'p> {
     pub fault: PointerFault,
 }
 
-/// Why a string is no pointer, if it is none.
+/// Why a string is not a pointer, if so.
 fn fault_of(spelt: &str) -> Option<PointerFault>
     ensures none { IfNone result (IsPointer spelt.now) }
     ensures fault { IfSome result (IsFaultOf spelt.now) }

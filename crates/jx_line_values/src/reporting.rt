@@ -1,33 +1,34 @@
 // The values of lines are written while an input is read.
 ghost use Rattle.std.specs.Prelude.{◌≡◌, ◌≢◌, ◌<◌, ◌↔◌, All, [], true, false, length, IfErr, IfOk, IsErrOf, OnOk};
 ghost use Rattle.jx_index.specs.Pointers.{IsPointer};
+ghost use Rattle.jx_find.specs.PointerTrie.{IsTrieOf};
 ghost use Rattle.jx_line_values.specs.LineValues.{pointers_of};
 ghost use Rattle.jx_line_values.specs.Reports.{ReportsLineValues, WroteDue, WroteInPart, WroteLines};
 ghost use Rattle.jx_line_values.specs.inside.Cutting.{HasTaken};
-ghost use Rattle.jx_line_values.specs.inside.Looking.{IsReady};
 ghost use Rattle.jx_line_values.specs.inside.Steps.{IsAllWritten, WritesOn, WritesPart};
 
 use crate::cutting::LineCutter;
-use crate::looking::{LookUp, Trie};
+use crate::looking::trie_of_all;
 use crate::task::LineValuesTask;
 use crate::telling::tell;
 use jx_ends::{Exit, ReportFault, Sink, Source, write_whole};
+use jx_find::PointerTrie;
 use std::alloc::Global;
 
 /// How many bytes are read at a time, at most. So few values wait at once.
 const STEP: usize = 64 * 1024;
 
-/// Takes a batch behind what was read, and writes and tells what is due then.
+/// Takes a batch after what was read, and writes the output and the messages that are due then.
 fn write_due<W: Sink, E: Sink>(
     alloc: Global,
     writer: &mut W,
     errors: &mut E,
     task: &LineValuesTask,
-    look_up: LookUp,
+    trie: &PointerTrie,
     cutter: &mut LineCutter,
     batch: &[u8],
 ) -> Result<(), ReportFault>
-    requires pointers { IsReady (pointers_of task.now) look_up }
+    requires pointers { IsTrieOf (pointers_of task.now) trie.now }
     requires writer { W.has_failed writer.old ≡ false }
     ensures ok { OnOk result (WritesOn task.now (W.contents writer.old) (W.contents writer.new) (E.has_failed errors.old) (E.has_failed errors.new) (E.contents errors.old) (E.contents errors.new) batch.now cutter.old cutter.new) }
     ensures going { OnOk result (W.has_failed writer.new ≡ false) }
@@ -38,25 +39,25 @@ fn write_due<W: Sink, E: Sink>(
     ensures unread { IfErr result (λ fault. fault ≢ ReportFault.Read) }
     ensures uncut { IfErr result (λ fault. fault ≢ ReportFault.Pieces) }
 {
-    cutter.feed(alloc, task, look_up, batch)?;
+    cutter.feed(alloc, task, trie, batch)?;
     write_whole(writer, cutter.ready())?;
     tell(errors, cutter.told());
     cutter.clear();
     Ok(())
 }
 
-/// Reads to the end of input, and writes and tells what is due: what a read gives is taken before the next one, which may wait.
+/// Reads to the end of input, and writes output and messages as they are due: each read is taken before the next one, which may wait.
 fn write_all_due<S: Source, W: Sink, E: Sink>(
     alloc: Global,
     reader: &mut S,
     writer: &mut W,
     errors: &mut E,
     task: &LineValuesTask,
-    look_up: LookUp,
+    trie: &PointerTrie,
     cutter: &mut LineCutter,
     buffer: &mut [u8],
 ) -> Result<(), ReportFault>
-    requires pointers { IsReady (pointers_of task.now) look_up }
+    requires pointers { IsTrieOf (pointers_of task.now) trie.now }
     requires reader { S.has_failed reader.old ≡ false }
     requires writer { W.has_failed writer.old ≡ false }
     requires room { 0 < length buffer.old }
@@ -79,15 +80,7 @@ fn write_all_due<S: Source, W: Sink, E: Sink>(
     for _ in 0..u64::MAX {
         match reader.read(buffer) {
             Ok(0) => return Ok(()),
-            Ok(count) => write_due(
-                alloc,
-                writer,
-                errors,
-                task,
-                look_up,
-                cutter,
-                &buffer[..count],
-            )?,
+            Ok(count) => write_due(alloc, writer, errors, task, trie, cutter, &buffer[..count])?,
             Err(_) => return Err(ReportFault::Read),
         }
     }
@@ -98,14 +91,14 @@ fn write_all_due<S: Source, W: Sink, E: Sink>(
 /// lead to in its text (RFC 6901), in their order, with a tab between. So line i of the output answers line i of the input. A
 /// value that is not there leaves its place empty, and so do all values of a line that is no JSON text.
 ///
-/// For each value that is not there it tells `jx: line N: POINTER: ANSWER`, and of a line that is no text `jx: line N: VERDICT`,
-/// with the line's number from 1. Offsets in verdicts count from the line's first byte. A line with blanks alone is told as
-/// `blank`, or passed over in silence; a last line that no line feed ends, and whose end shows only in what follows, as `may be
-/// cut`. The exit is good where nothing is told.
+/// For each value that is not there it reports `jx: line N: POINTER: ANSWER`, and of a line that is not valid JSON `jx: line N: VERDICT`,
+/// with the line's number from 1. Offsets in verdicts count from the line's first byte. A line of white space alone is reported as
+/// `blank`, or skipped in silence; a last line that no line feed ends, and whose end shows only in what follows, as `may be
+/// cut`. The status is good where nothing is reported.
 ///
-/// What is due of a batch is written, and then told, before the next read may wait, and never taken back. One batch and one
-/// line are held. The names of the settings are of no account: objects may repeat them. Where telling fails, no more is told,
-/// and the exit is the same.
+/// The output for a batch is written, and then the messages, before the next read may wait, and never taken back. One batch and one
+/// line are kept in memory. The names of the settings are ignored: objects may repeat them. Where a message cannot be written, no more are,
+/// and the status is the same.
 pub fn report_line_values<S: Source, W: Sink, E: Sink>(
     alloc: Global,
     reader: &mut S,
@@ -131,8 +124,7 @@ pub fn report_line_values<S: Source, W: Sink, E: Sink>(
         (E.has_failed errors.new) (E.contents errors.old) (E.contents errors.new) }
     ensures uncut { IfErr result (λ fault. fault ≢ ReportFault.Pieces) }
 {
-    let trie = Trie::of(alloc, &task.pointers)?;
-    let look_up = trie.look_up();
+    let trie = trie_of_all(alloc, &task.pointers)?;
     let mut buffer: Vec<u8> = vec![in alloc; 0; STEP]?;
     let mut cutter = LineCutter::new(alloc);
     write_all_due(
@@ -141,11 +133,11 @@ pub fn report_line_values<S: Source, W: Sink, E: Sink>(
         writer,
         errors,
         task,
-        look_up,
+        &trie,
         &mut cutter,
         &mut buffer,
     )?;
-    let exit = cutter.finish(alloc, task, look_up)?;
+    let exit = cutter.finish(alloc, task, &trie)?;
     write_whole(writer, cutter.ready())?;
     tell(errors, cutter.told());
     Ok(exit)

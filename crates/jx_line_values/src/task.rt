@@ -4,11 +4,11 @@ use jx_run::Settings;
 /// What is asked of each line of an input.
 #[derive(Debug, Drop)]
 pub struct LineValuesTask {
-    /// The pointers to the values of a line (RFC 6901, section 3), as they are spelt.
+    /// The pointers to the values of a line (RFC 6901, section 3), as they were given.
     pub pointers: Vec<String>,
-    /// How each line is read. A byte order mark may stand in front of the first line alone. The names are of no account:
+    /// How each line is read. A byte order mark may stand in front of the first line alone. The names are ignored:
     /// objects may repeat them.
     pub settings: Settings,
-    /// Whether nothing is told of blank lines.
+    /// Whether empty lines are skipped in silence.
     pub skips_blank: bool,
 }

@@ -1,4 +1,4 @@
-// What is told of a line, or of a pointer that leads nowhere in it.
+// The messages on a line, or on a pointer that leads nowhere in it.
 ghost use Rattle.std.specs.Prelude.{◌≡◌, ◌++◌, codes, decimal, false, length, map, string_bytes, true, OnOk};
 ghost use Rattle.std.specs.Io.KnownBytes.{Appends};
 ghost use Rattle.jx_line_values.specs.LineValues.{told_of_found, told_of_verdict};
@@ -91,7 +91,7 @@ pub(crate) fn add_all_found(
     Ok(())
 }
 
-/// Tells what there is to tell, unless telling has failed before. Where telling fails, no more is told.
+/// Writes the messages, unless such a write has failed before. Where one fails, no more are written.
 pub(crate) fn tell<E: Sink>(errors: &mut E, told: &[u8])
     ensures told { E.has_failed errors.new ≡ false → Appends (E.contents errors.old) (E.contents errors.new) told.now }
     ensures lost { E.has_failed errors.old ≡ true → E.has_failed errors.new ≡ true }
@@ -101,7 +101,7 @@ pub(crate) fn tell<E: Sink>(errors: &mut E, told: &[u8])
     }
 }
 
-/// Bad where something is told now, else the exit that there was before.
+/// Bad where something is reported now, else the status that there was before.
 pub(crate) fn exit_past(exit: Exit, told: &[u8]) -> Exit
     ensures { result ≡ exit_past exit told.now }
 {

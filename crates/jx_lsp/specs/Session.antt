@@ -24,20 +24,20 @@ abbrev pub has_left : Phase → Bool
 has_left (phase.Ended clean) = true
 has_left _ = false
 
--- as it should only by `exit` behind `shutdown`
+-- as it should only by `exit` after `shutdown`
 abbrev pub ended_at : Phase → Ended
 ended_at (phase.Ended true) = Clean
 ended_at _ = Early
 
 -- ---- what is replied
 
--- the replies to bodies, one to each, in their order; none is followed behind `exit`
+-- the replies to bodies, one to each, in their order; none is followed after `exit`
 pub data Talks : ServerValue → List (List ℕ) → ServerValue → List Reply → Type 0 where
   silent : (server : ServerValue) → Talks server [] server []
   one_more : (first next last : ServerValue) (body : List ℕ) (others : List (List ℕ)) (reply : Reply) (replies : List Reply) → has_left first.phase ≡ false
       → Turns body first next reply → Talks next others last replies → Talks first (body ∷ others) last (reply ∷ replies)
 
--- the messages of replies, in their order: for each the one that tells it, which is a JSON text, and none where there is nothing to tell
+-- the messages for replies, in their order: each is a JSON text, and there is none for a reply without a message
 pub data AreTold : List Reply → List (List ℕ) → Type 0 where
   none_told : AreTold [] []
   untold : (replies : List Reply) (messages : List (List ℕ)) → AreTold replies messages → AreTold (Nothing ∷ replies) messages
@@ -58,7 +58,7 @@ pub record Serves (first : ServerValue) (followed : List (List ℕ)) (last : Ser
 
 -- ---- a whole session
 
--- where the client has not left, one reply more stands behind a stream that cannot be read on
+-- where the client has not left, one reply more follows a stream that cannot be read on
 abbrev pub closing : Bool → Option FrameFault → List Reply
 closing true fault = []
 closing false None = []
@@ -69,7 +69,7 @@ abbrev pub HasStopped : ServerValue → Reading → Type 0
 HasStopped server reading = (has_left server.phase ≡ true) ⊎ (is_some (fault_of reading) ≡ true)
 
 -- the bodies that end in what was read were followed from the start on: in all of it, up to the end of input, or in a beginning,
--- behind which the client has left or the stream cannot be read on
+-- after which the client has left or the stream cannot be read on
 pub record IsServed (unread left written grown : Option (List ℕ)) (ended : Ended) : Type 0 where
   pub stream : List ℕ
   pub rest : List ℕ

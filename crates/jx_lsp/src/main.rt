@@ -7,7 +7,7 @@ use serve::{Ended, serve};
 use std::process::ExitCode;
 use std::{env, io};
 
-const HELP: &str = "jx-lsp tells an editor on each change where a JSON text (RFC 8259) stops being
+const HELP: &str = "jx-lsp shows an editor on each change where a JSON text (RFC 8259) stops being
 one, by the Language Server Protocol.
 
 Usage: jx-lsp [--stdio]
@@ -21,16 +21,16 @@ Options:
   -V, --version  Print version
 
 Exit status: 0 after shutdown and exit, 1 where the client ends otherwise or
-its messages cannot be read, 2 for wrong words.
+its messages cannot be read, 2 for wrong arguments.
 ";
 
 const VERSION: &str = "jx-lsp 0.3.0\n";
 
-const WRONG: &str = "jx-lsp: wrong words; see jx-lsp --help\n";
+const WRONG: &str = "jx-lsp: wrong arguments; see jx-lsp --help\n";
 
 const NO_MEMORY: &str = "jx-lsp: out of memory\n";
 
-/// What a call asks for.
+/// The task of a call.
 #[derive(Clone, Copy, Debug, PartialEq, Eq)]
 enum Task {
     Serve,
@@ -39,7 +39,7 @@ enum Task {
     Wrong,
 }
 
-/// What words ask for; the first is the program's own name.
+/// The task of these arguments; the first is the program's own name.
 fn task_of(words: &[&str]) -> Task {
     match words {
         [] | [_] | [_, "--stdio"] => Task::Serve,
@@ -63,7 +63,7 @@ fn tell(rt: &HostRuntime, words: &str) -> ExitCode {
     }
 }
 
-/// What is told where the words of a call could not be read.
+/// The message where the arguments could not be read.
 fn words_of(fault: &io::Error) -> &'static str {
     match fault.kind() {
         io::ErrorKind::OutOfMemory => NO_MEMORY,

@@ -16,12 +16,12 @@ const BATCH: usize = 65536;
 /// How a client ended.
 #[derive(Clone, Copy, Debug, PartialEq, Eq)]
 pub enum Ended {
-    /// By `exit` behind `shutdown`.
+    /// By `exit` after `shutdown`.
     Clean,
     Early,
 }
 
-/// Writes the message that tells a reply.
+/// Writes the message for a reply.
 fn tell<W: Write>(alloc: Global, writer: &mut W, reply: &Reply) -> io::Result<()>
     ensures { OnOk result (Writes (reply.now ∷ []) (W.contents writer.old) (W.contents writer.new)) }
 {
@@ -95,7 +95,7 @@ fn answer_all<W: Write>(
 }
 
 /// Serves a client up to the end of its messages: each body that ends in what is read is followed, in order, and each reply is
-/// written as a frame. Behind a fault of the stream one reply more is written.
+/// written as a frame. After a fault of the stream one reply more is written.
 pub fn serve<R: Read, W: Write>(alloc: Global, reader: &mut R, writer: &mut W) -> io::Result<Ended>
     ensures { IfOk result (IsServed (R.remaining reader.old) (R.remaining reader.new) (W.contents writer.old) (W.contents writer.new)) }
 {

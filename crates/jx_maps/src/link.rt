@@ -38,7 +38,7 @@ impl Link {
         }
     }
 
-    /// The same link, with so many more segments between.
+    /// The link with so many more segments between.
     pub(crate) fn shifted(self, by: usize, count: usize) -> Link
         requires is_in { IsIn count self }
         requires fits { by + count < 2 ^ 64 }

@@ -1,7 +1,11 @@
 pub mod Alike
+pub mod Apart
+pub mod Counted
 pub mod Feeds
 pub mod Keeping
+pub mod KeyTables
 pub mod Lists
+pub mod PlainNames
+pub mod Spellings
 pub mod Standing
 pub mod Telling
-pub mod Units

@@ -1,6 +1,8 @@
 -- What names that are told the tokens of a slice are held of.
-use Rattle.std.proofs.Common.{◌≡◌, ℕ, ◌+◌, ◌<◌, ◌≤◌, List, [], ◌∷◌, ◌++◌, length, drop, refl, sym, ap, subst, ◌∙◌, append-nil, arith, true, false, inl, inr, Option, None, Some}
-use Rattle.std.specs.Prelude.{◌⊎◌, slice_range}
+use Rattle.std.proofs.Common.{◌≡◌, ℕ, ◌+◌, ◌-◌, ◌<◌, ◌≤◌, List, [], ◌∷◌, ◌++◌, length, drop, take, refl, sym, ap, subst, ◌∙◌, append-nil, append_assoc, arith, true, false, Option, None, Some}
+use Rattle.std.specs.Prelude.{slice_range}
+use Rattle.std.proofs.lemmas.List.{drop-append-le, drop-drop, length-drop, take-append-le}
+use Rattle.std.proofs.Math.Seq.{drop-append_seam}
 use Rattle.jx_lex.specs.declared.alphabet.mark.Mark.{Mark}
 use Rattle.jx_lex.specs.declared.alphabet.mark.MarkKind.{MarkKind}
 use Rattle.jx_lex.specs.declared.alphabet.mark.MarkKind.TheVariants as mark
@@ -124,18 +126,21 @@ module _ (held : Holds) (slice : List ℕ) (marks : List Mark) (ends : List ℕ)
       (has_end held slice (marks ++ m ∷ []) ends own base names (record { kind = m.kind; at = at }) to next (Some (record { kind = m.kind; at = at })) name after told refl tells named
       (has_token held slice marks ends own base names m at begun name moved token none h))
 
--- ---- a comma or a colon
+-- ---- a whole name in a slice
 
-abbrev pub Separates : MarkKind → Type 0
-Separates k = (k ≡ mark.Comma) ⊎ (k ≡ mark.Colon)
-
-pub separator_plain : (k : MarkKind) → Separates k → is_token k ≡ false
-separator_plain k (inl h) = ap is_token h
-separator_plain k (inr h) = ap is_token h
-
-pub separator_tells : (k : MarkKind) (at : ℕ) (name : List ℕ) (names : OpenNames) → Separates k → Tells k at name names names
-separator_tells k at name names (inl h) = λ text b end named s. subst (λ (x : MarkKind). Stands text (on_mark x at end b) (kept names)) (sym h) s
-separator_tells k at name names (inr h) = λ text b end named s. subst (λ (x : MarkKind). Stands text (on_mark x at end b) (kept names)) (sym h) s
+-- the bytes of a slice where it stands in the text
+pub part_there : (before own future : List ℕ) (base from to : ℕ) → base ≡ length before → from ≤ to → to ≤ length own → slice_range own from to ≡ slice_range ((before ++ own) ++ future) (base + from) (base + to)
+part_there before own future base from to is order within =
+    let count : base + to - (base + from) ≡ to - from = omega (arith, order) in
+    let rest : length (drop from own) ≡ length own - from = length-drop from own in
+    sym (
+    ap (λ (n : ℕ). take n (drop (base + from) ((before ++ own) ++ future))) count
+    ∙ ap (λ (xs : List ℕ). take (to - from) (drop (base + from) xs)) (append_assoc before own future)
+    ∙ ap (take (to - from)) (sym (drop-drop from base (before ++ (own ++ future))))
+    ∙ ap (λ (n : ℕ). take (to - from) (drop from (drop n (before ++ (own ++ future))))) is
+    ∙ ap (λ (xs : List ℕ). take (to - from) (drop from xs)) (drop-append_seam before (own ++ future))
+    ∙ ap (take (to - from)) (drop-append-le from own future (omega (arith, order, within)))
+    ∙ take-append-le (to - from) (drop from own) future (omega (arith, rest, order, within)))
 
 -- ---- the first byte and the last
 

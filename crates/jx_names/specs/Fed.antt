@@ -22,6 +22,6 @@ pub record HasFed (settings : Settings) (bytes : List ℕ) (r : NamesReader) : T
 abbrev pub end_of : NamesReader → ℕ
 end_of r = r.reader.start + r.reader.count
 
--- memory was refused, and every slice will be
+-- it was out of memory, and will be for every slice
 abbrev pub IsLost : NamesReader → Type 0
 IsLost r = r.held ≡ None

@@ -1,4 +1,6 @@
 -- What the contracts of this crate's own functions cite.
+pub mod ApartKeys
 pub mod HeldNames
 pub mod KeptNames
+pub mod NameBytes
 pub mod SliceNames

@@ -1,4 +1,4 @@
-// What is held of a text between two slices.
+// The state of names between two slices.
 ghost use Rattle.std.specs.Prelude.{◌≡◌, [], ℕ, List, None, length, IfOk};
 ghost use Rattle.jx_lex.specs.declared.alphabet.mark.Mark.{Mark};
 ghost use Rattle.jx_index.specs.inside.Building.{built_of};
@@ -18,7 +18,7 @@ pub struct Held {
 }
 
 impl Held {
-    /// What is held before the first byte.
+    /// The state before the first byte.
     pub(crate) fn new(alloc: Global) -> Held
         ensures held { IsHeld [] [] [] result.names result.begun result.name.items }
         ensures begun { result.begun ≡ None }

@@ -2,8 +2,11 @@
 #![tactic(auto)]
 
 mod held;
+mod key_pairs;
+mod key_table;
+mod name_bytes;
+mod name_key;
 mod name_lists;
-mod name_units;
 mod names_reader;
 mod on_slice;
 mod open_names;

@@ -13,28 +13,28 @@ ghost use Rattle.jx_names.specs.inside.HeldNames.{IsHeld};
 
 use crate::held::Held;
 use crate::on_slice::{Before, OnSlice};
-use jx_index::indexes_stand_behind_fronts;
-use jx_lex::tokens_are_read;
+use jx_index::index_behind_a_front;
+use jx_lex::grammar_of_tokens;
 use jx_run::{
-    Reader, Refusal, Settings, Verdict, accepted_texts_stand_behind_fronts, reader_is_grammar,
-    slices_are_told_in_turn, verdict_by_settings_is_one,
+    Reader, Refusal, Settings, Verdict, accepted_texts_stand_behind_fronts, reader_and_grammar,
+    slices_are_told_in_turn, unique_verdict_by_settings,
 };
 use std::alloc::{AllocError, Global};
 use std::marker::Brand;
 
 /// A reader of a JSON text (RFC 8259) whose objects may repeat no name (section 4), which is fed by slices of any length. It
-/// keeps the names of open objects, by their UTF-16 code units, and of the text only the bytes of a name that has begun and
-/// not ended.
+/// keeps the names of open objects, by bytes that stand for their UTF-16 code units, and of the text only the bytes of a name
+/// that has begun and not ended.
 #[derive(Drop)]
 pub struct NamesReader {
     reader: Reader,
-    /// None where memory was refused.
+    /// None when out of memory.
     held: Option<Held>,
     // A token has begun just where the reader stands inside one.
     ghost turn: { AreInTurn (λ (h : HeldOf). h.begun) reader.outcome held } by { AreInTurn-prop (λ (h : HeldOf). h.begun) reader.outcome held },
 }
 
-/// Reads a slice behind all bytes that were read, and keeps its names.
+/// Reads a slice after all bytes that were read, and keeps its names.
 fn feed_held<B: Before>(reader: &mut Reader, held: Held, slice: &[u8]) -> Result<Held, AllocError>
     requires fits { reader.old.start + reader.old.count + length slice.now < 2 ^ 64 }
     requires slice { slice.now ≡ B.slice }
@@ -91,7 +91,7 @@ impl NamesReader {
         self.reader.end()
     }
 
-    /// Reads the slice behind all bytes that it was fed. Only want of memory is refused, and from then on every slice is.
+    /// Reads the slice after all bytes that it was fed. Fails only when out of memory, and from then on for every slice.
     pub fn feed(&mut self, slice: &[u8]) -> Result<(), AllocError>
         requires fits { end_of self.old + length slice.now < 2 ^ 64 }
         ensures fed { OnOk result ((settings : Settings) (bytes : List ℕ) → HasFed settings bytes self.old → HasFed settings (bytes ++ slice.now) self.new) }
@@ -113,11 +113,11 @@ impl NamesReader {
         ensures verdict { IfOk result (λ verdict. (settings : Settings) (bytes : List ℕ) → HasFed settings bytes self → IsVerdictBy settings bytes verdict) }
         ensures lost { IsLost self → IsErr result }
     {
-        tokens_are_read();
-        reader_is_grammar();
-        verdict_by_settings_is_one();
+        grammar_of_tokens();
+        reader_and_grammar();
+        unique_verdict_by_settings();
         accepted_texts_stand_behind_fronts();
-        indexes_stand_behind_fronts();
+        index_behind_a_front();
         let NamesReader { reader, held } = self;
         let Some(held) = held else {
             return Err(AllocError);

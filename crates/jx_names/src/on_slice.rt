@@ -1,19 +1,19 @@
-// The names of open objects, as a reader tells the tokens of a slice.
-ghost use Rattle.std.specs.Prelude.{◌≡◌, ◌++◌, [], ℕ, List, Some, length, IfOk};
+// The names of open objects, as a reader gives the tokens of a slice.
+ghost use Rattle.std.specs.Prelude.{◌≡◌, ◌++◌, [], ℕ, List, Some, length, reverse, true, IfOk, IsTrue};
 ghost use Rattle.jx_lex.specs.declared.alphabet.mark.Mark.{Mark};
 ghost use Rattle.jx_run.specs.Telling.{moved_ends, moved_marks};
 ghost use Rattle.jx_names.specs.inside.HeldNames.{IsHeld};
-ghost use Rattle.jx_names.specs.inside.KeptNames.{is_name_next, kept};
+ghost use Rattle.jx_names.specs.inside.KeptNames.{is_child_next, is_name_next, kept};
 ghost use Rattle.jx_names.specs.inside.SliceNames.{HasTold};
 
 use crate::held::Held;
 use crate::open_names::OpenNames;
 use jx_index::{has_end, held_name, moved, token_bytes};
-use jx_lex::{Mark, MarkKind, TokenSink};
+use jx_lex::{Mark, TokenCounts, TokenSink};
 use std::alloc::AllocError;
 use std::marker::{Brand, PhantomData};
 
-/// Of which bytes, marks and ends something was held at a slice's start, and the slice's bytes. A call picks them.
+/// The bytes, token starts and ends of the state at a slice's start, and the slice's bytes. A call picks them.
 pub trait Before {
     ghost use Rattle.std.specs.Prelude.{ℕ, List};
     ghost use Rattle.jx_names.specs.inside.SliceNames.{Holds};
@@ -31,6 +31,17 @@ impl Before for Brand {
     ghost slice = { [] };
 }
 
+/// Whether tokens that have these counts are children of one array, which concern no name: it is open, and none of them is a
+/// bracket.
+#[inline(always)]
+fn are_children(names: &OpenNames, counts: &TokenCounts) -> bool
+    ensures array { IsTrue result → is_child_next (reverse names.now.opened.items) names.now.name ≡ true }
+    ensures opening { IsTrue result → counts.now.opening ≡ 0 }
+    ensures closing { IsTrue result → counts.now.closing ≡ 0 }
+{
+    counts.opening == 0 && counts.closing == 0 && names.is_child_next()
+}
+
 /// The names of open objects, told the tokens of a slice which stands from `base` on.
 #[derive(Drop)]
 pub struct OnSlice<'a, B> {
@@ -45,7 +56,7 @@ pub struct OnSlice<'a, B> {
 }
 
 impl<'a, B: Before> OnSlice<'a, B> {
-    /// What was held is told no token of the slice yet.
+    /// The state at the slice's start, before any of its tokens.
     pub(crate) fn new(slice: &'a [u8], base: usize, held: Held) -> OnSlice<'a, B>
         requires slice { slice.now ≡ B.slice }
         requires base { (bytes : List ℕ) (marks : List Mark) (ends : List ℕ) → B.held bytes marks ends → base ≡ length bytes }
@@ -74,7 +85,7 @@ impl<'a, B: Before> OnSlice<'a, B> {
         }
     }
 
-    /// What is held behind the slice.
+    /// The state after the slice.
     pub(crate) fn into_held(self) -> Result<Held, AllocError>
         ensures held { IfOk result (λ held. (marks : List Mark) (ends : List ℕ)
             → HasTold B.held B.slice marks ends self.entry.slice.now self.entry.base self.entry.names self.entry.begun self.entry.name.items
@@ -102,20 +113,15 @@ impl<'a, B: Before> TokenSink for OnSlice<'a, B> {
 
     #[inline(always)]
     fn begin(&mut self, mark: Mark) -> Result<(), AllocError> {
-        match mark.kind {
-            // Neither changes which names there are.
-            MarkKind::Comma | MarkKind::Colon => return Ok(()),
-            _ => {}
-        }
-        let at = moved(self.base, mark.at)?;
         if has_end(mark.kind) {
+            let at = moved(self.base, mark.at)?;
             self.begun = Some(Mark {
                 kind: mark.kind,
                 at,
             });
             return Ok(());
         }
-        self.names.tell(mark.kind, at, &[])?;
+        self.names.structural(mark.kind)?;
         Ok(())
     }
 
@@ -136,14 +142,32 @@ impl<'a, B: Before> TokenSink for OnSlice<'a, B> {
     }
 
     #[inline(always)]
+    fn wants_counts(&self) -> bool {
+        self.names.is_child_next()
+    }
+
+    #[inline(always)]
+    fn takes_counts(&self, counts: &TokenCounts) -> bool {
+        are_children(&self.names, counts)
+    }
+
+    #[inline(always)]
+    fn counted(&mut self, counts: &TokenCounts) -> Result<(), AllocError> {
+        if are_children(&self.names, counts) {
+            Ok(())
+        } else {
+            Err(AllocError)
+        }
+    }
+
+    #[inline(always)]
     fn token(&mut self, mark: Mark, to: usize) -> Result<(), AllocError> {
         if !self.names.is_name_next(mark.kind) {
             self.names.scalar()?;
             return Ok(());
         }
         let at = moved(self.base, mark.at)?;
-        let name = token_bytes(&mut self.name, self.slice, self.base, at, to, true)?;
-        self.names.tell(mark.kind, at, name)?;
+        self.names.name(at, self.slice, mark.at, to)?;
         Ok(())
     }
 }

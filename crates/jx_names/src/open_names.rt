@@ -1,13 +1,14 @@
 // The names of the members of open objects, while a text is read.
-ghost use Rattle.std.specs.Prelude.{◌≡◌, ℕ, List, None, Some, drop, false, reverse, slice_range, true, IfOk};
+ghost use Rattle.std.specs.Prelude.{◌≡◌, ◌≤◌, ℕ, List, None, Some, drop, false, length, reverse, slice_range, true, IfOk};
 ghost use Rattle.jx_lex.specs.declared.alphabet.mark.MarkKind.{MarkKind};
 ghost use Rattle.jx_index.specs.Repeats.{IsLeast};
 ghost use Rattle.jx_index.specs.inside.Building.{Building, is_token, nothing_built, on_mark};
 ghost use Rattle.jx_string.specs.Texts.{string_units};
-ghost use Rattle.jx_names.specs.inside.KeptNames.{cut_back, end_from, kept, is_name_next, names_next, with_container, with_name, with_value, Ends, HaveKeys, IsRepeatedKept, Stands};
+ghost use Rattle.jx_names.specs.inside.KeptNames.{cut_back, end_from, kept, is_child_next, is_name_next, names_next, with_container, with_name, with_value, Ends, IsRepeatedKept, Stands};
 
+use crate::name_bytes::{Name, add_name};
 use crate::name_lists::{earlier, first_repeated};
-use crate::name_units::{Name, add_units};
+use jx_index::has_end;
 use jx_lex::MarkKind;
 use std::alloc::{AllocError, Global};
 
@@ -23,16 +24,19 @@ pub struct Container {
 pub struct OpenNames {
     opened: Vec<Container>,
     names: Vec<Name>,
-    /// The units of the names, and behind them those of a name whose value is still to come.
-    units: Vec<u16>,
+    /// The bytes of the names, and after them those of a name whose value is still to come.
+    bytes: Vec<u8>,
     /// A name whose value is still to come.
     name: Option<Name>,
-    /// The names of one object by their units, while it ends.
+    /// The keys of the names of one object, while it ends.
+    table: Vec<u64>,
+    /// These names by their keys.
     sorted: Vec<Name>,
     first: Option<usize>,
 }
 
-/// The names behind so many.
+/// The names after so many.
+#[inline(always)]
 fn names_behind(names: &[Name], count: usize) -> &[Name]
     ensures { result.now ≡ drop count names.now }
 {
@@ -51,8 +55,9 @@ impl OpenNames {
         OpenNames {
             opened: Vec::new(alloc),
             names: Vec::new(alloc),
-            units: Vec::new(alloc),
+            bytes: Vec::new(alloc),
             name: None,
+            table: Vec::new(alloc),
             sorted: Vec::new(alloc),
             first: None,
         }
@@ -66,6 +71,7 @@ impl OpenNames {
     }
 
     /// A value begins: the name that waits belongs to it.
+    #[inline(always)]
     fn begin_value(&mut self) -> Result<(), AllocError>
         ensures { IfOk result (λ _. kept self.new ≡ with_value (kept self.old)) }
     {
@@ -77,6 +83,7 @@ impl OpenNames {
     }
 
     /// A container begins, and is the innermost open one.
+    #[inline(always)]
     fn begin(&mut self, is_object: bool) -> Result<(), AllocError>
         ensures { IfOk result (λ _. kept self.new ≡ with_container is_object (kept self.old)) }
     {
@@ -86,21 +93,23 @@ impl OpenNames {
         Ok(())
     }
 
-    /// The first name that the innermost open container repeats, where its names are those behind so many.
+    /// The first name that the innermost open container repeats, where its names are those after so many.
+    #[inline(always)]
     fn repeated_behind(&mut self, before: usize) -> Result<Option<usize>, AllocError>
-        ensures name { IfOk result (λ first. HaveKeys self.old.units.items (drop before self.old.names.items)
-            → IsLeast (IsRepeatedKept self.old.units.items (drop before self.old.names.items)) first) }
+        ensures name { IfOk result (IsLeast (IsRepeatedKept self.old.bytes.items (drop before self.old.names.items))) }
         ensures same { IfOk result (λ _. kept self.new ≡ kept self.old) }
     {
         first_repeated(
-            &self.units,
+            &self.bytes,
             names_behind(&self.names, before),
+            &mut self.table,
             &mut self.sorted,
         )
     }
 
-    /// Where the units of the last name end.
-    fn units_end(&self) -> usize
+    /// Where the bytes of the last name end.
+    #[inline(always)]
+    fn bytes_end(&self) -> usize
         ensures { result ≡ end_from 0 self.now.names.items }
     {
         match self.names.last() {
@@ -109,17 +118,19 @@ impl OpenNames {
         }
     }
 
-    /// Lets the units go that belong to no name.
-    fn cut_units(&mut self)
-        ensures { kept self.new ≡ record (kept self.old) { units = cut_back self.old.units.items self.old.names.items self.old.name } }
+    /// Frees the bytes that belong to no name.
+    #[inline(always)]
+    fn cut_bytes(&mut self)
+        ensures { kept self.new ≡ record (kept self.old) { bytes = cut_back self.old.bytes.items self.old.names.items self.old.name } }
     {
         if self.name.is_none() {
-            let end = self.units_end();
-            self.units.truncate(end);
+            let end = self.bytes_end();
+            self.bytes.truncate(end);
         }
     }
 
     /// The innermost open container ends, if there is one, and its names are let go.
+    #[inline(always)]
     fn end(&mut self) -> Result<(), AllocError>
         ensures { IfOk result (λ _. Ends (reverse self.old.opened.items) (kept self.old) (kept self.new)) }
     {
@@ -129,7 +140,7 @@ impl OpenNames {
                 self.first = earlier(self.first, repeated);
             }
             self.names.truncate(top.before);
-            self.cut_units();
+            self.cut_bytes();
         }
         Ok(())
     }
@@ -145,7 +156,7 @@ impl OpenNames {
         }
     }
 
-    /// Whether a mark of this kind, if it comes next, begins a name.
+    /// Whether a token start of this kind, if it comes next, begins a name.
     #[inline(always)]
     pub(crate) fn is_name_next(&self, kind: MarkKind) -> bool
         ensures { result ≡ is_name_next kind (kept self.now) }
@@ -156,7 +167,18 @@ impl OpenNames {
         }
     }
 
-    /// A value of one token, which is no name. Only want of memory is refused.
+    /// Whether a string that comes next is a child of an array: the innermost open container is one, and no name waits.
+    #[inline(always)]
+    pub(crate) fn is_child_next(&self) -> bool
+        ensures { result ≡ is_child_next (reverse self.now.opened.items) self.now.name }
+    {
+        match (self.opened.last(), self.name) {
+            (Some(top), None) => !top.is_object,
+            _ => false,
+        }
+    }
+
+    /// A value of one token, which is no name. Fails only when out of memory.
     #[inline(always)]
     pub(crate) fn scalar(&mut self) -> Result<(), AllocError>
         ensures { IfOk result (λ _. (text : List ℕ) (b : Building) (kind : MarkKind) (at end : ℕ) → is_token kind ≡ true → is_name_next kind (kept self.old) ≡ false
@@ -169,36 +191,76 @@ impl OpenNames {
         Ok(())
     }
 
-    /// A name that begins at an offset, by its bytes with the quotation marks.
-    fn begin_name(&mut self, at: usize, string: &[u8]) -> Result<(), AllocError>
-        ensures { IfOk result (λ _. kept self.new ≡ with_name at (string_units string.now) (kept self.old)) }
+    /// A name that begins at an offset, by where it stands in a list of bytes with its quotation marks.
+    #[inline(always)]
+    fn begin_name(
+        &mut self,
+        at: usize,
+        text: &[u8],
+        from: usize,
+        to: usize,
+    ) -> Result<(), AllocError>
+        requires { (from ≤ to) × (to ≤ length text.now) }
+        ensures { IfOk result (λ _. kept self.new ≡ with_name at (string_units (slice_range text.now from to)) (kept self.old)) }
     {
-        let from = self.units.len();
-        let key = add_units(&mut self.units, string)?;
-        let to = self.units.len();
-        self.name = Some(Name { at, from, to, key });
+        let start = self.bytes.len();
+        let key = add_name(&mut self.bytes, text, from, to)?;
+        let end = self.bytes.len();
+        self.name = Some(Name {
+            at,
+            from: start,
+            to: end,
+            key,
+        });
         Ok(())
     }
 
-    /// One mark more, and of a name its bytes, with the quotation marks. Only want of memory is refused.
-    pub(crate) fn tell(&mut self, kind: MarkKind, at: usize, name: &[u8]) -> Result<(), AllocError>
-        ensures { IfOk result (λ _. (text : List ℕ) (b : Building) (end : ℕ) → (is_name_next kind (kept self.old) ≡ true → slice_range text at end ≡ name.now)
+    /// A whole name, which the part of a slice from one offset to another is.
+    #[inline(always)]
+    pub(crate) fn name(
+        &mut self,
+        at: usize,
+        slice: &[u8],
+        from: usize,
+        to: usize,
+    ) -> Result<(), AllocError>
+        ensures within { IfOk result (λ _. (from ≤ to) × (to ≤ length slice.now)) }
+        ensures stands { IfOk result (λ _. (text : List ℕ) (b : Building) (kind : MarkKind) (end : ℕ) → is_name_next kind (kept self.old) ≡ true → slice_range text at end ≡ slice_range slice.now from to
             → Stands text b (kept self.old) → Stands text (on_mark kind at end b) (kept self.new)) }
+    {
+        if from > to || to > slice.len() {
+            return Err(AllocError);
+        }
+        self.begin_name(at, slice, from, to)
+    }
+
+    /// Takes one more structural byte. Fails only when out of memory.
+    #[inline(always)]
+    pub(crate) fn structural(&mut self, kind: MarkKind) -> Result<(), AllocError>
+        requires { is_token kind ≡ false }
+        ensures { IfOk result (λ _. (text : List ℕ) (b : Building) (at end : ℕ) → Stands text b (kept self.old) → Stands text (on_mark kind at end b) (kept self.new)) }
     {
         match kind {
             MarkKind::OpenArray => self.begin(false),
             MarkKind::OpenObject => self.begin(true),
             MarkKind::CloseArray | MarkKind::CloseObject => self.end(),
+            // Neither changes which names there are.
             MarkKind::Colon | MarkKind::Comma => Ok(()),
-            MarkKind::String => {
-                if self.names_next() {
-                    return self.begin_name(at, name);
-                }
-                self.begin_value()
-            }
-            MarkKind::Number | MarkKind::True | MarkKind::False | MarkKind::Null => {
-                self.begin_value()
-            }
+            _ => unreachable!(),
         }
+    }
+
+    /// Takes one more token start, and of a name its bytes, with the quotation marks. Fails only when out of memory.
+    pub(crate) fn tell(&mut self, kind: MarkKind, at: usize, name: &[u8]) -> Result<(), AllocError>
+        ensures { IfOk result (λ _. (text : List ℕ) (b : Building) (end : ℕ) → (is_name_next kind (kept self.old) ≡ true → slice_range text at end ≡ name.now)
+            → Stands text b (kept self.old) → Stands text (on_mark kind at end b) (kept self.new)) }
+    {
+        if !has_end(kind) {
+            return self.structural(kind);
+        }
+        if self.is_name_next(kind) {
+            return self.begin_name(at, name, 0, name.len());
+        }
+        self.begin_value()
     }
 }

@@ -14,12 +14,11 @@ use Rattle.jx_run.specs.declared.texts.verdict.Verdict.{Verdict}
 use Rattle.jx_run.specs.declared.texts.verdict.Verdict.TheVariants as verdict
 use Rattle.jx_run.specs.Elements.{Part, part, has_bytes}
 use Rattle.jx_run.specs.Front.{agreed}
-use Rattle.jx_run.specs.Settings.{byte_order_mark}
-use Rattle.jx_run.specs.Verdict.{Judged}
+use Rattle.jx_run.specs.Settings.{JudgedBy, a_text, byte_order_mark}
 use Rattle.jx_ndjson.specs.declared.judged_line.JudgedLine.{JudgedLine}
 use Rattle.jx_ndjson.specs.declared.judged_line.LineVerdict.{LineVerdict}
 use Rattle.jx_ndjson.specs.declared.judged_line.LineVerdict.TheVariants as on_line
-use Rattle.jx_ndjson.specs.Answers.{AreAnswers, IsAnswer, IsVerdictOn}
+use Rattle.jx_ndjson.specs.Answers.{AreAnswers, IsAnswer, IsVerdictOn, settings_at}
 use Rattle.jx_ndjson.specs.Lines.{Line, line, ended_lines, is_line_feed, lines, lines_from, lines_of, mark_length}
 use Rattle.jx_ndjson.specs.Parts.{before_first, behind_each, parts_by}
 use Rattle.jx_ndjson.specs.Reading.{HasTold, LineReaderValue, ended_from}
@@ -29,7 +28,7 @@ use Rattle.jx_ndjson.proofs.Steps.{lines-split}
 -- ---- the answers are one
 
 abbrev pub VerdictsAreOne : Type 0
-VerdictsAreOne = (at limit : ℕ) (bytes : List ℕ) (x y : Verdict) → Judged at bytes limit x → Judged at bytes limit y → x ≡ y
+VerdictsAreOne = (settings : Settings) (at : ℕ) (bytes : List ℕ) (x y : Verdict) → JudgedBy settings at bytes x → JudgedBy settings at bytes y → x ≡ y
 
 not_blank : {A : Type 0} (b : Bool) → b ≡ true → b ≡ false → A
 not_blank b x y = absurd (cc)
@@ -38,46 +37,46 @@ refusal_in : Refusal → Verdict → Refusal
 refusal_in r verdict.Accepted = r
 refusal_in r (verdict.Refused s) = s
 
-one_on_line : VerdictsAreOne → (l : Line) (limit : ℕ) (x y : LineVerdict) → IsVerdictOn l limit x → IsVerdictOn l limit y → x ≡ y
+one_on_line : VerdictsAreOne → (l : Line) (settings : Settings) (x y : LineVerdict) → IsVerdictOn l settings x → IsVerdictOn l settings y → x ≡ y
 unfolding refusal_in
-one_on_line law l limit on_line.Blank on_line.Blank h k = refl
-one_on_line law l limit on_line.Blank (on_line.Refused r) h k = not_blank _ h k.0
-one_on_line law l limit on_line.Blank on_line.MayBeCut h k = not_blank _ h k.0
-one_on_line law l limit on_line.Blank on_line.Accepted h k = not_blank _ h k.0
-one_on_line law l limit (on_line.Refused r) on_line.Blank h k = not_blank _ k h.0
-one_on_line law l limit (on_line.Refused r) (on_line.Refused s) h k =
-    ap (λ (v : Verdict). on_line.Refused (refusal_in r v)) (law l.part.at limit l.part.bytes (verdict.Refused r) (verdict.Refused s) h.1 k.1)
-one_on_line law l limit (on_line.Refused r) on_line.MayBeCut h k = absurd (let e = law l.part.at limit l.part.bytes (verdict.Refused r) verdict.Accepted h.1 k.1.1.accepted.judged in cc)
-one_on_line law l limit (on_line.Refused r) on_line.Accepted h k = absurd (let e = law l.part.at limit l.part.bytes (verdict.Refused r) verdict.Accepted h.1 k.1 in cc)
-one_on_line law l limit on_line.MayBeCut on_line.Blank h k = not_blank _ k h.0
-one_on_line law l limit on_line.MayBeCut (on_line.Refused s) h k = absurd (let e = law l.part.at limit l.part.bytes (verdict.Refused s) verdict.Accepted k.1 h.1.1.accepted.judged in cc)
-one_on_line law l limit on_line.MayBeCut on_line.MayBeCut h k = refl
-one_on_line law l limit on_line.MayBeCut on_line.Accepted h k = absurd (k.2 h.1)
-one_on_line law l limit on_line.Accepted on_line.Blank h k = not_blank _ k h.0
-one_on_line law l limit on_line.Accepted (on_line.Refused s) h k = absurd (let e = law l.part.at limit l.part.bytes (verdict.Refused s) verdict.Accepted k.1 h.1 in cc)
-one_on_line law l limit on_line.Accepted on_line.MayBeCut h k = absurd (h.2 k.1)
-one_on_line law l limit on_line.Accepted on_line.Accepted h k = refl
+one_on_line law l settings on_line.Blank on_line.Blank h k = refl
+one_on_line law l settings on_line.Blank (on_line.Refused r) h k = not_blank _ h k.0
+one_on_line law l settings on_line.Blank on_line.MayBeCut h k = not_blank _ h k.0
+one_on_line law l settings on_line.Blank on_line.Accepted h k = not_blank _ h k.0
+one_on_line law l settings (on_line.Refused r) on_line.Blank h k = not_blank _ k h.0
+one_on_line law l settings (on_line.Refused r) (on_line.Refused s) h k =
+    ap (λ (v : Verdict). on_line.Refused (refusal_in r v)) (law settings l.part.at l.part.bytes (verdict.Refused r) (verdict.Refused s) h.1 k.1)
+one_on_line law l settings (on_line.Refused r) on_line.MayBeCut h k = absurd (let e = law settings l.part.at l.part.bytes (verdict.Refused r) verdict.Accepted h.1 (a_text k.1.is_text) in cc)
+one_on_line law l settings (on_line.Refused r) on_line.Accepted h k = absurd (let e = law settings l.part.at l.part.bytes (verdict.Refused r) verdict.Accepted h.1 k.1 in cc)
+one_on_line law l settings on_line.MayBeCut on_line.Blank h k = not_blank _ k h.0
+one_on_line law l settings on_line.MayBeCut (on_line.Refused s) h k = absurd (let e = law settings l.part.at l.part.bytes (verdict.Refused s) verdict.Accepted k.1 (a_text h.1.is_text) in cc)
+one_on_line law l settings on_line.MayBeCut on_line.MayBeCut h k = refl
+one_on_line law l settings on_line.MayBeCut on_line.Accepted h k = absurd (k.2 h.1)
+one_on_line law l settings on_line.Accepted on_line.Blank h k = not_blank _ k h.0
+one_on_line law l settings on_line.Accepted (on_line.Refused s) h k = absurd (let e = law settings l.part.at l.part.bytes (verdict.Refused s) verdict.Accepted k.1 h.1 in cc)
+one_on_line law l settings on_line.Accepted on_line.MayBeCut h k = absurd (h.2 k.1)
+one_on_line law l settings on_line.Accepted on_line.Accepted h k = refl
 
-one_answer : VerdictsAreOne → (limit : ℕ) (l : Line) (x y : JudgedLine) → IsAnswer limit l x → IsAnswer limit l y → x ≡ y
-one_answer law limit l x y h k =
+one_answer : VerdictsAreOne → (settings : Settings) (l : Line) (x y : JudgedLine) → IsAnswer settings l x → IsAnswer settings l y → x ≡ y
+one_answer law settings l x y h k =
     let number : x.number ≡ y.number = h.number_is ∙ sym k.number_is in
     let span : x.span ≡ y.span = h.span_is ∙ sym k.span_is in
-    let on : x.verdict ≡ y.verdict = one_on_line law l limit x.verdict y.verdict h.verdict_is k.verdict_is in
+    let on : x.verdict ≡ y.verdict = one_on_line law l (settings_at settings l.part.at) x.verdict y.verdict h.verdict_is k.verdict_is in
     ap (λ (n : ℕ). let j : JudgedLine = record { number = n; span = x.span; verdict = x.verdict } in j) number
     ∙ ap (λ (s : Span). let j : JudgedLine = record { number = y.number; span = s; verdict = x.verdict } in j) span
     ∙ ap (λ (v : LineVerdict). let j : JudgedLine = record { number = y.number; span = y.span; verdict = v } in j) on
 
-one_each : VerdictsAreOne → (limit : ℕ) (ls : List Line) (xs ys : List JudgedLine) → AllZip (IsAnswer limit) ls xs → AllZip (IsAnswer limit) ls ys → xs ≡ ys
-one_each law limit [] [] [] h k = refl
-one_each law limit [] [] (y ∷ ys) h k = absurd k
-one_each law limit [] (x ∷ xs) ys h k = absurd h
-one_each law limit (l ∷ ls) [] ys h k = absurd h
-one_each law limit (l ∷ ls) (x ∷ xs) [] h k = absurd k
-one_each law limit (l ∷ ls) (x ∷ xs) (y ∷ ys) h k =
-    ap (λ (j : JudgedLine). j ∷ xs) (one_answer law limit l x y h.0 k.0) ∙ ap (λ (js : List JudgedLine). y ∷ js) (one_each law limit ls xs ys h.1 k.1)
+one_each : VerdictsAreOne → (settings : Settings) (ls : List Line) (xs ys : List JudgedLine) → AllZip (IsAnswer settings) ls xs → AllZip (IsAnswer settings) ls ys → xs ≡ ys
+one_each law settings [] [] [] h k = refl
+one_each law settings [] [] (y ∷ ys) h k = absurd k
+one_each law settings [] (x ∷ xs) ys h k = absurd h
+one_each law settings (l ∷ ls) [] ys h k = absurd h
+one_each law settings (l ∷ ls) (x ∷ xs) [] h k = absurd k
+one_each law settings (l ∷ ls) (x ∷ xs) (y ∷ ys) h k =
+    ap (λ (j : JudgedLine). j ∷ xs) (one_answer law settings l x y h.0 k.0) ∙ ap (λ (js : List JudgedLine). y ∷ js) (one_each law settings ls xs ys h.1 k.1)
 
 pub one_answers : VerdictsAreOne → (settings : Settings) (input : List ℕ) (x y : List JudgedLine) → AreAnswers settings input x → AreAnswers settings input y → x ≡ y
-one_answers law settings input x y h k = one_each law settings.depth (lines settings.mark input) x y h k
+one_answers law settings input x y h k = one_each law settings (lines settings.mark input) x y h k
 
 -- ---- lines that have ended
 
@@ -111,10 +110,10 @@ ended_is at bytes ps p h =
     ∙ ap (λ (ls : List Line). ended_from 1 ps ++ ls) (last_alone (1 + length ps) p)
     ∙ append-nil (ended_from 1 ps)
 
-pub told_are_ended : (settings : Settings) (input : List ℕ) (told : List JudgedLine) (r : LineReaderValue) → HasTold settings input told r → AllZip (IsAnswer settings.depth) (ended_lines settings.mark input) told
+pub told_are_ended : (settings : Settings) (input : List ℕ) (told : List JudgedLine) (r : LineReaderValue) → HasTold settings input told r → AllZip (IsAnswer settings) (ended_lines settings.mark input) told
 told_are_ended settings input told r h =
     let k = mark_length settings.mark input in
-    subst (λ (ls : List Line). AllZip (IsAnswer settings.depth) ls told) (sym (ended_is k (drop k input) h.reads.ended h.reads.last h.reads.parts)) h.reads.answers
+    subst (λ (ls : List Line). AllZip (IsAnswer settings) ls told) (sym (ended_is k (drop k input) h.reads.ended h.reads.last h.reads.parts)) h.reads.answers
 
 -- ---- they stay
 

@@ -22,13 +22,12 @@ use Rattle.jx_ndjson.proofs.Cuts.{last-ends, longer, none-behind, parts-append}
 -- ---- the line that goes on
 
 -- with more bytes
-pub longer_line : (limit : ℕ) (p : Part) (more : List ℕ) (old new : LineReaderValue) → IsOpen limit p old → new.reader.settings ≡ old.reader.settings → new.reader.start ≡ old.reader.start
+pub longer_line : (settings : Settings) (p : Part) (more : List ℕ) (old new : LineReaderValue) → IsOpen settings p old → new.reader.settings ≡ old.reader.settings → new.reader.start ≡ old.reader.start
     → ((xs : List ℕ) → HasRead xs old.reader → HasRead (xs ++ more) new.reader) → new.is_blank ≡ (old.is_blank && are_blanks more) → new.open_ended ≡ last_open old.open_ended more
-    → IsOpen limit (longer p more) new
-longer_line limit p more old new h same start reads blank opens =
+    → IsOpen settings (longer p more) new
+longer_line settings p more old new h same start reads blank opens =
     record {
-      depth = ap (λ (s : Settings). s.depth) same ∙ h.depth;
-      mark = ap (λ (s : Settings). s.mark) same ∙ h.mark;
+      reads_by = same ∙ h.reads_by;
       start = start ∙ h.start;
       read = reads p.bytes h.read;
       blank = blank ∙ ap (λ (b : Bool). b && are_blanks more) h.blank ∙ sym (list_all-append is_blank p.bytes more);
@@ -36,11 +35,10 @@ longer_line limit p more old new h same start reads blank opens =
     }
 
 -- the same one, whatever else there is
-pub same_open : (limit : ℕ) (p : Part) (old new : LineReaderValue) → new.reader ≡ old.reader → new.is_blank ≡ old.is_blank → new.open_ended ≡ old.open_ended → IsOpen limit p old → IsOpen limit p new
-same_open limit p old new r b o h =
+pub same_open : (settings : Settings) (p : Part) (old new : LineReaderValue) → new.reader ≡ old.reader → new.is_blank ≡ old.is_blank → new.open_ended ≡ old.open_ended → IsOpen settings p old → IsOpen settings p new
+same_open settings p old new r b o h =
     record {
-      depth = ap (λ (x : ReaderValue). x.settings.depth) r ∙ h.depth;
-      mark = ap (λ (x : ReaderValue). x.settings.mark) r ∙ h.mark;
+      reads_by = ap (λ (x : ReaderValue). x.settings) r ∙ h.reads_by;
       start = ap (λ (x : ReaderValue). x.start) r ∙ h.start;
       read = subst (HasRead p.bytes) (sym r) h.read;
       blank = b ∙ h.blank;
@@ -49,9 +47,9 @@ same_open limit p old new r b o h =
 
 -- ---- all lines
 
-pub goes_on : (limit at : ℕ) (bytes more : List ℕ) (told : List JudgedLine) (old new : LineReaderValue) → HasReadLines limit at bytes told old → HasNoLineFeed more → new.ended ≡ old.ended
-    → ((p : Part) → IsOpen limit p old → IsOpen limit (longer p more) new) → HasReadLines limit at (bytes ++ more) told new
-goes_on limit at bytes more told old new h none ended opened =
+pub goes_on : (settings : Settings) (at : ℕ) (bytes more : List ℕ) (told : List JudgedLine) (old new : LineReaderValue) → HasReadLines settings at bytes told old → HasNoLineFeed more → new.ended ≡ old.ended
+    → ((p : Part) → IsOpen settings p old → IsOpen settings (longer p more) new) → HasReadLines settings at (bytes ++ more) told new
+goes_on settings at bytes more told old new h none ended opened =
     record {
       ended = h.ended;
       last = longer h.last more;
@@ -65,13 +63,13 @@ goes_on limit at bytes more told old new h none ended opened =
     }
 
 -- the same reader, whatever else there is
-pub same_lines : (limit at : ℕ) (bytes : List ℕ) (told : List JudgedLine) (old new : LineReaderValue) → new.reader ≡ old.reader → new.is_blank ≡ old.is_blank → new.open_ended ≡ old.open_ended
-    → new.ended ≡ old.ended → HasReadLines limit at bytes told old → HasReadLines limit at bytes told new
-same_lines limit at bytes told old new r b o n h =
-    record { ended = h.ended; last = h.last; parts = h.parts; answers = h.answers; count = n ∙ h.count; goes_on = same_open limit h.last old new r b o h.goes_on }
+pub same_lines : (settings : Settings) (at : ℕ) (bytes : List ℕ) (told : List JudgedLine) (old new : LineReaderValue) → new.reader ≡ old.reader → new.is_blank ≡ old.is_blank → new.open_ended ≡ old.open_ended
+    → new.ended ≡ old.ended → HasReadLines settings at bytes told old → HasReadLines settings at bytes told new
+same_lines settings at bytes told old new r b o n h =
+    record { ended = h.ended; last = h.last; parts = h.parts; answers = h.answers; count = n ∙ h.count; goes_on = same_open settings h.last old new r b o h.goes_on }
 
-pub reached : (limit at : ℕ) (bytes : List ℕ) (told : List JudgedLine) (r : LineReaderValue) → HasReadLines limit at bytes told r → r.reader.start + r.reader.count ≡ at + length bytes
-reached limit at bytes told r h =
+pub reached : (settings : Settings) (at : ℕ) (bytes : List ℕ) (told : List JudgedLine) (r : LineReaderValue) → HasReadLines settings at bytes told r → r.reader.start + r.reader.count ≡ at + length bytes
+reached settings at bytes told r h =
     let end = last-ends is_line_feed bytes at h.ended h.last h.parts in
     let start = h.goes_on.start in
     let long = h.goes_on.read.count in
@@ -90,11 +88,11 @@ ended-snoc n (q ∷ ps) p =
 pub whole : (p : Part) → longer p [] ≡ p
 whole p = ap (part p.at) (append-nil p.bytes)
 
-pub ends_line : (limit at : ℕ) (bytes : List ℕ) (told : List JudgedLine) (old new : LineReaderValue) (j : JudgedLine) → HasReadLines limit at bytes told old
-    → ((p : Part) → IsOpen limit p old → IsAnswer limit (line (suc old.ended) p true) j) → ((p : Part) → IsOpen limit p old → IsOpen limit (part (old.reader.start + old.reader.count + 1) []) new)
-    → new.ended ≡ suc old.ended → HasReadLines limit at (bytes ++ 0x0a ∷ []) (told ++ j ∷ []) new
-ends_line limit at bytes told old new j h judged opened ended =
-    let there : suc (at + length bytes) ≡ old.reader.start + old.reader.count + 1 = let e = reached limit at bytes told old h in omega (arith, e) in
+pub ends_line : (settings : Settings) (at : ℕ) (bytes : List ℕ) (told : List JudgedLine) (old new : LineReaderValue) (j : JudgedLine) → HasReadLines settings at bytes told old
+    → ((p : Part) → IsOpen settings p old → IsAnswer settings (line (suc old.ended) p true) j) → ((p : Part) → IsOpen settings p old → IsOpen settings (part (old.reader.start + old.reader.count + 1) []) new)
+    → new.ended ≡ suc old.ended → HasReadLines settings at (bytes ++ 0x0a ∷ []) (told ++ j ∷ []) new
+ends_line settings at bytes told old new j h judged opened ended =
+    let there : suc (at + length bytes) ≡ old.reader.start + old.reader.count + 1 = let e = reached settings at bytes told old h in omega (arith, e) in
     let next : Part = part (old.reader.start + old.reader.count + 1) [] in
     let number : suc old.ended ≡ 1 + length h.ended = let e = h.count in omega (arith, e) in
     record {
@@ -106,9 +104,9 @@ ends_line limit at bytes told old new j h judged opened ended =
           ∙ ap (λ (n : ℕ). h.ended ++ h.last ∷ part n [] ∷ []) there
           ∙ sym (append_assoc h.ended (h.last ∷ []) (next ∷ []));
       answers =
-          subst (λ (ls : List Line). AllZip (IsAnswer limit) ls (told ++ j ∷ [])) (sym (ended-snoc 1 h.ended h.last))
-          (AllZip-append (IsAnswer limit) (ended_from 1 h.ended) (line (1 + length h.ended) h.last true ∷ []) told (j ∷ []) h.answers
-          (subst (λ (n : ℕ). IsAnswer limit (line n h.last true) j) number (judged h.last h.goes_on), tt));
+          subst (λ (ls : List Line). AllZip (IsAnswer settings) ls (told ++ j ∷ [])) (sym (ended-snoc 1 h.ended h.last))
+          (AllZip-append (IsAnswer settings) (ended_from 1 h.ended) (line (1 + length h.ended) h.last true ∷ []) told (j ∷ []) h.answers
+          (subst (λ (n : ℕ). IsAnswer settings (line n h.last true) j) number (judged h.last h.goes_on), tt));
       count = ended ∙ ap suc h.count ∙ sym (length-snoc h.ended h.last);
       goes_on = opened h.last h.goes_on;
     }
@@ -151,24 +149,24 @@ one_line : (n : ℕ) (p : Part) (b : Bool) → has_bytes p ≡ b → lines_of n 
 one_line n p b h = ap (λ (t : Bool). cond t (line n p false ∷ []) []) h
 
 -- it has bytes
-pub with_last : (limit at : ℕ) (bytes : List ℕ) (told : List JudgedLine) (r : LineReaderValue) (j : JudgedLine) → HasReadLines limit at bytes told r → (r.reader.start ≡ r.reader.start + r.reader.count → ⊥)
-    → ((p : Part) → IsOpen limit p r → IsAnswer limit (line (suc r.ended) p false) j) → AllZip (IsAnswer limit) (lines_from at bytes) (told ++ j ∷ [])
-with_last limit at bytes told r j h some judged =
+pub with_last : (settings : Settings) (at : ℕ) (bytes : List ℕ) (told : List JudgedLine) (r : LineReaderValue) (j : JudgedLine) → HasReadLines settings at bytes told r → (r.reader.start ≡ r.reader.start + r.reader.count → ⊥)
+    → ((p : Part) → IsOpen settings p r → IsAnswer settings (line (suc r.ended) p false) j) → AllZip (IsAnswer settings) (lines_from at bytes) (told ++ j ∷ [])
+with_last settings at bytes told r j h some judged =
     let long = h.goes_on.read.count in
     let filled : has_bytes h.last ≡ true = has h.last (omega (arith, long, some)) in
     let number : suc r.ended ≡ 1 + length h.ended = let e = h.count in omega (arith, e) in
-    subst (λ (ls : List Line). AllZip (IsAnswer limit) ls (told ++ j ∷ []))
+    subst (λ (ls : List Line). AllZip (IsAnswer settings) ls (told ++ j ∷ []))
     (sym (ap (lines_of 1) h.parts ∙ lines-split 1 h.ended h.last [] ∙ ap (λ (ls : List Line). ended_from 1 h.ended ++ ls) (one_line (1 + length h.ended) h.last true filled)))
-    (AllZip-append (IsAnswer limit) (ended_from 1 h.ended) (line (1 + length h.ended) h.last false ∷ []) told (j ∷ []) h.answers
-    (subst (λ (n : ℕ). IsAnswer limit (line n h.last false) j) number (judged h.last h.goes_on), tt))
+    (AllZip-append (IsAnswer settings) (ended_from 1 h.ended) (line (1 + length h.ended) h.last false ∷ []) told (j ∷ []) h.answers
+    (subst (λ (n : ℕ). IsAnswer settings (line n h.last false) j) number (judged h.last h.goes_on), tt))
 
 -- it has none
-pub without_last : (limit at : ℕ) (bytes : List ℕ) (told : List JudgedLine) (r : LineReaderValue) → HasReadLines limit at bytes told r → r.reader.start ≡ r.reader.start + r.reader.count
-    → AllZip (IsAnswer limit) (lines_from at bytes) (told ++ [])
-without_last limit at bytes told r h none =
+pub without_last : (settings : Settings) (at : ℕ) (bytes : List ℕ) (told : List JudgedLine) (r : LineReaderValue) → HasReadLines settings at bytes told r → r.reader.start ≡ r.reader.start + r.reader.count
+    → AllZip (IsAnswer settings) (lines_from at bytes) (told ++ [])
+without_last settings at bytes told r h none =
     let long = h.goes_on.read.count in
     let empty : has_bytes h.last ≡ false = has_not h.last (omega (arith, long, none)) in
-    subst (λ (js : List JudgedLine). AllZip (IsAnswer limit) (lines_from at bytes) js) (sym (append-nil told))
-    (subst (λ (ls : List Line). AllZip (IsAnswer limit) ls told)
+    subst (λ (js : List JudgedLine). AllZip (IsAnswer settings) (lines_from at bytes) js) (sym (append-nil told))
+    (subst (λ (ls : List Line). AllZip (IsAnswer settings) ls told)
     (sym (ap (lines_of 1) h.parts ∙ lines-split 1 h.ended h.last [] ∙ ap (λ (ls : List Line). ended_from 1 h.ended ++ ls) (one_line (1 + length h.ended) h.last false empty) ∙ append-nil (ended_from 1 h.ended)))
     h.answers)

@@ -12,7 +12,7 @@ use Rattle.jx_ndjson.specs.declared.line_tally.LineCounts.{LineCounts}
 use Rattle.jx_ndjson.specs.Answers.{AreAnswers}
 use Rattle.jx_ndjson.specs.Reading.{HasTold}
 use Rattle.jx_ndjson.specs.Tally.{HasTaken, IsTallied, TallyValue, bad_of, count_of, counted, counts_of, is_accepted, is_blank_line, is_refused, one_if}
-use Rattle.jx_ndjson.specs.WholeLines.{AreWhole, WholeLinesValue, moved_line}
+use Rattle.jx_ndjson.specs.WholeLines.{AreWhole, WholeLinesValue, moved_line, moved_verdict}
 use Rattle.jx_ndjson.proofs.Moved.{bad_moved}
 
 -- ---- bytes one after another
@@ -183,6 +183,136 @@ takes_texts settings bytes more given answers whole lines at old new h k none co
           ∙ h.bad_are
           ∙ sym (append-nil (bad_of h.answers))
           ∙ ap (λ (js : List JudgedLine). bad_of h.answers ++ js) (sym empty)
+          ∙ sym (filter-append (λ (x : JudgedLine). not (is_accepted x.verdict)) h.answers moved);
+    }
+
+-- ---- whole lines that were judged apart
+
+pub one_counted : (is : LineVerdict → Bool) (j : JudgedLine) (js : List JudgedLine) (b : Bool) → is j.verdict ≡ b → count_of is (j ∷ js) ≡ one_if b + count_of is js
+one_counted is j js true e =
+    ap (λ (t : Bool). length (cond t (j ∷ filter (λ (x : JudgedLine). is x.verdict) js) (filter (λ (x : JudgedLine). is x.verdict) js))) e
+    ∙ (let q : suc (count_of is js) ≡ 1 + count_of is js = omega arith in q)
+one_counted is j js false e =
+    ap (λ (t : Bool). length (cond t (j ∷ filter (λ (x : JudgedLine). is x.verdict) js) (filter (λ (x : JudgedLine). is x.verdict) js))) e
+    ∙ (let q : count_of is js ≡ 0 + count_of is js = omega arith in q)
+
+one_bad : (j : JudgedLine) (js : List JudgedLine) (b : Bool) → is_accepted j.verdict ≡ b → bad_of (j ∷ js) ≡ cond (not b) (j ∷ bad_of js) (bad_of js)
+one_bad j js b e = ap (λ (t : Bool). cond (not t) (j ∷ bad_of js) (bad_of js)) e
+
+-- lines are accepted or not, and the others refused or blank
+pub record Kinds (js : List JudgedLine) : Type 0 where
+  pub all : count_of is_accepted js + length (bad_of js) ≡ length js
+  pub others : count_of is_refused js + count_of is_blank_line js ≡ length (bad_of js)
+  pub blanks : count_of is_blank_line (bad_of js) ≡ count_of is_blank_line js
+
+one_kind : (j : JudgedLine) (js : List JudgedLine) → Kinds js → Kinds (j ∷ js)
+one_kind j js k = pick j.verdict refl
+  where
+    accepted : is_accepted j.verdict ≡ true → is_refused j.verdict ≡ false → is_blank_line j.verdict ≡ false → Kinds (j ∷ js)
+    accepted a r b =
+        let all = k.all in
+        let others = k.others in
+        let blanks = k.blanks in
+        let out : bad_of (j ∷ js) ≡ bad_of js = one_bad j js true a in
+        let x = one_counted is_accepted j js true a in
+        let y = one_counted is_refused j js false r in
+        let z = one_counted is_blank_line j js false b in
+        let long : length (bad_of (j ∷ js)) ≡ length (bad_of js) = ap length out in
+        let among : count_of is_blank_line (bad_of (j ∷ js)) ≡ count_of is_blank_line (bad_of js) = ap (count_of is_blank_line) out in
+        record { all = omega (arith, all, x, long); others = omega (arith, others, y, z, long); blanks = omega (arith, blanks, z, among) }
+
+    refused : is_accepted j.verdict ≡ false → is_refused j.verdict ≡ true → is_blank_line j.verdict ≡ false → Kinds (j ∷ js)
+    refused a r b =
+        let all = k.all in
+        let others = k.others in
+        let blanks = k.blanks in
+        let in_front : bad_of (j ∷ js) ≡ j ∷ bad_of js = one_bad j js false a in
+        let x = one_counted is_accepted j js false a in
+        let y = one_counted is_refused j js true r in
+        let z = one_counted is_blank_line j js false b in
+        let long : length (bad_of (j ∷ js)) ≡ suc (length (bad_of js)) = ap length in_front in
+        let among : count_of is_blank_line (bad_of (j ∷ js)) ≡ 0 + count_of is_blank_line (bad_of js) = ap (count_of is_blank_line) in_front ∙ one_counted is_blank_line j (bad_of js) false b in
+        record { all = omega (arith, all, x, long); others = omega (arith, others, y, z, long); blanks = omega (arith, blanks, z, among) }
+
+    blank : is_accepted j.verdict ≡ false → is_refused j.verdict ≡ false → is_blank_line j.verdict ≡ true → Kinds (j ∷ js)
+    blank a r b =
+        let all = k.all in
+        let others = k.others in
+        let blanks = k.blanks in
+        let in_front : bad_of (j ∷ js) ≡ j ∷ bad_of js = one_bad j js false a in
+        let x = one_counted is_accepted j js false a in
+        let y = one_counted is_refused j js false r in
+        let z = one_counted is_blank_line j js true b in
+        let long : length (bad_of (j ∷ js)) ≡ suc (length (bad_of js)) = ap length in_front in
+        let among : count_of is_blank_line (bad_of (j ∷ js)) ≡ 1 + count_of is_blank_line (bad_of js) = ap (count_of is_blank_line) in_front ∙ one_counted is_blank_line j (bad_of js) true b in
+        record { all = omega (arith, all, x, long); others = omega (arith, others, y, z, long); blanks = omega (arith, blanks, z, among) }
+
+    pick : (v : LineVerdict) → j.verdict ≡ v → Kinds (j ∷ js)
+    pick Accepted e = accepted (ap is_accepted e) (ap is_refused e) (ap is_blank_line e)
+    pick (Refused refusal) e = refused (ap is_accepted e) (ap is_refused e) (ap is_blank_line e)
+    pick MayBeCut e = refused (ap is_accepted e) (ap is_refused e) (ap is_blank_line e)
+    pick Blank e = blank (ap is_accepted e) (ap is_refused e) (ap is_blank_line e)
+
+pub kinds : (js : List JudgedLine) → Kinds js
+kinds [] = record { all = omega arith; others = omega arith; blanks = refl }
+kinds (j ∷ js) = one_kind j js (kinds js)
+
+-- as many are blank further on
+blanks_moved : (lines at : ℕ) (js : List JudgedLine) → count_of is_blank_line (map (moved_line lines at) js) ≡ count_of is_blank_line js
+blanks_moved lines at [] = refl
+blanks_moved lines at (j ∷ js) =
+    one_counted is_blank_line (moved_line lines at j) (map (moved_line lines at) js) (is_blank_line j.verdict) (same j.verdict)
+    ∙ ap (λ (n : ℕ). one_if (is_blank_line j.verdict) + n) (blanks_moved lines at js)
+    ∙ sym (one_counted is_blank_line j js (is_blank_line j.verdict) refl)
+  where
+    same : (v : LineVerdict) → is_blank_line (moved_verdict at v) ≡ is_blank_line v
+    same Accepted = refl
+    same (Refused refusal) = refl
+    same MayBeCut = refl
+    same Blank = refl
+
+-- counts with so many lines more of each kind
+abbrev pub with_counts : LineCounts → ℕ → ℕ → ℕ → LineCounts
+with_counts counts accepted refused blank = record { accepted = counts.accepted + accepted; refused = counts.refused + refused; blank = counts.blank + blank }
+
+counts_both : (xs js : List JudgedLine) → counts_of (xs ++ js) ≡ with_counts (counts_of xs) (count_of is_accepted js) (count_of is_refused js) (count_of is_blank_line js)
+counts_both xs js =
+    ap (λ (n : ℕ). record { accepted = n; refused = count_of is_refused (xs ++ js); blank = count_of is_blank_line (xs ++ js) }) (count-append is_accepted xs js)
+    ∙ ap (λ (n : ℕ). record { accepted = count_of is_accepted xs + count_of is_accepted js; refused = n; blank = count_of is_blank_line (xs ++ js) }) (count-append is_refused xs js)
+    ∙ ap (λ (n : ℕ). record { accepted = count_of is_accepted xs + count_of is_accepted js; refused = count_of is_refused xs + count_of is_refused js; blank = n }) (count-append is_blank_line xs js)
+
+pub takes_whole : (settings : Settings) (bytes more : List ℕ) (given answers : List JudgedLine) (whole : WholeLinesValue) (lines at : ℕ) (old new : TallyValue) → HasTaken settings bytes given old
+    → AreWhole settings.depth more answers whole
+    → new.counts ≡ with_counts old.counts (whole.count - length whole.bad) (length whole.bad - count_of is_blank_line whole.bad) (count_of is_blank_line whole.bad)
+    → new.waiting ≡ old.waiting ++ map (moved_line lines at) whole.bad
+    → ((told : List JudgedLine) → HasTold settings bytes told old.lines → HasTold settings (bytes ++ more) (told ++ map (moved_line lines at) answers) new.lines)
+    → HasTaken settings (bytes ++ more) given new
+takes_whole settings bytes more given answers whole lines at old new h k counts waiting reads =
+    let moved : List JudgedLine = map (moved_line lines at) answers in
+    let same : bad_of moved ≡ map (moved_line lines at) whole.bad = bad_moved lines at answers ∙ ap (map (moved_line lines at)) (sym k.bad_are) in
+    let less : length (bad_of moved) ≡ length whole.bad = ap length same ∙ length-map whole.bad (moved_line lines at) in
+    let count = k.count_is in
+    let long : length moved ≡ length answers = length-map answers (moved_line lines at) in
+    let all = (kinds moved).all in
+    let others = (kinds moved).others in
+    let x : whole.count - length whole.bad ≡ count_of is_accepted moved = omega (arith, all, less, long, count) in
+    let z : count_of is_blank_line whole.bad ≡ count_of is_blank_line moved = ap (count_of is_blank_line) k.bad_are ∙ (kinds answers).blanks ∙ sym (blanks_moved lines at answers) in
+    let y : length whole.bad - count_of is_blank_line whole.bad ≡ count_of is_refused moved = omega (arith, others, less, z) in
+    record {
+      answers = h.answers ++ moved;
+      told = reads h.answers h.told;
+      counts_are =
+          counts
+          ∙ ap (λ (c : LineCounts). with_counts c (whole.count - length whole.bad) (length whole.bad - count_of is_blank_line whole.bad) (count_of is_blank_line whole.bad)) h.counts_are
+          ∙ ap (λ (n : ℕ). with_counts (counts_of h.answers) n (length whole.bad - count_of is_blank_line whole.bad) (count_of is_blank_line whole.bad)) x
+          ∙ ap (λ (n : ℕ). with_counts (counts_of h.answers) (count_of is_accepted moved) n (count_of is_blank_line whole.bad)) y
+          ∙ ap (λ (n : ℕ). with_counts (counts_of h.answers) (count_of is_accepted moved) (count_of is_refused moved) n) z
+          ∙ sym (counts_both h.answers moved);
+      bad_are =
+          ap (λ (js : List JudgedLine). given ++ js) waiting
+          ∙ sym (append_assoc given old.waiting (map (moved_line lines at) whole.bad))
+          ∙ ap (λ (js : List JudgedLine). js ++ map (moved_line lines at) whole.bad) h.bad_are
+          ∙ ap (λ (js : List JudgedLine). bad_of h.answers ++ js) (sym same)
           ∙ sym (filter-append (λ (x : JudgedLine). not (is_accepted x.verdict)) h.answers moved);
     }
 

@@ -26,13 +26,14 @@ use Rattle.jx_run.specs.Reading.{at_exit, read, read_text}
 use Rattle.jx_run.specs.Tree.{span}
 use Rattle.jx_run.specs.Verdict.{Judged}
 use Rattle.jx_run.specs.Whole.{verdict_from}
+use Rattle.jx_run.proofs.Fronts.{refused_judged}
 use Rattle.jx_run.proofs.LawProofs.{Verdicts}
 use Rattle.jx_run.proofs.RunVerdict.{same_verdict}
 use Rattle.jx_ndjson.specs.declared.judged_line.LineVerdict.TheVariants.{Accepted}
 use Rattle.jx_ndjson.specs.Answers.{are_blanks}
 use Rattle.jx_ndjson.specs.Lines.{is_line_feed}
 use Rattle.jx_ndjson.specs.Parts.{behind_each, parts_by}
-use Rattle.jx_ndjson.specs.WholeLines.{WholeLinesValue}
+use Rattle.jx_ndjson.specs.WholeLines.{WholeLinesValue, unmarked}
 use Rattle.jx_ndjson.specs.inside.Steps.{HasNoLineFeed}
 use Rattle.jx_ndjson.specs.inside.Texts.{AreTexts, IsEnd, IsTextWithin}
 use Rattle.jx_ndjson.proofs.Cuts.{none-behind, parts-append, take-snoc}
@@ -126,7 +127,7 @@ one_line limit xs none h = (
   record {
     ended = part 0 xs ∷ [];
     parts = line_parts xs none;
-    are_answers = (record { number_is = refl; span_is = refl; verdict_is = (h.not_blank, h.judged, λ c. never c.0) }, tt);
+    are_answers = (record { number_is = refl; span_is = refl; verdict_is = (h.not_blank, refused_judged (unmarked limit) 0 xs refl verdict.Accepted h.judged, λ c. never c.not_ended) }, tt);
     len_is = refl;
     count_is = refl;
     bad_are = refl;

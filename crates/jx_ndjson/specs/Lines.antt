@@ -35,7 +35,7 @@ abbrev pub mark_length : FrontMark → List ℕ → ℕ
 mark_length Refused input = 0
 mark_length Ignored input = if agreed input byte_order_mark == 3 then 3 else 0
 
--- the lines of an input, after such a token start
+-- the lines of an input, after an ignored byte order mark
 abbrev pub lines : FrontMark → List ℕ → List Line
 lines mark input = lines_from (mark_length mark input) (drop (mark_length mark input) input)
 

@@ -10,7 +10,7 @@ use Rattle.jx_run.specs.Reader as text_reader
 use Rattle.jx_run.specs.Settings.{byte_order_mark}
 use Rattle.jx_run.specs.Unclosed.{ends_open}
 use Rattle.jx_ndjson.specs.declared.judged_line.JudgedLine.{JudgedLine}
-use Rattle.jx_ndjson.specs.Answers.{IsAnswer, are_blanks}
+use Rattle.jx_ndjson.specs.Answers.{IsAnswer, are_blanks, settings_at}
 use Rattle.jx_ndjson.specs.Lines.{Line, line, is_line_feed, mark_length}
 use Rattle.jx_ndjson.specs.Parts.{parts_by}
 
@@ -26,9 +26,8 @@ pub record LineReaderValue : Type 0 where
   pub in_front : Bool
 
 -- the line that goes on has these bytes so far
-pub record IsOpen (limit : ℕ) (p : Part) (r : LineReaderValue) : Type 0 where
-  pub depth : r.reader.settings.depth ≡ limit
-  pub mark : r.reader.settings.mark ≡ on_mark.Refused
+pub record IsOpen (settings : Settings) (p : Part) (r : LineReaderValue) : Type 0 where
+  pub reads_by : r.reader.settings ≡ settings_at settings p.at
   pub start : r.reader.start ≡ p.at
   pub read : HasRead p.bytes r.reader
   pub blank : r.is_blank ≡ are_blanks p.bytes
@@ -40,13 +39,13 @@ ended_from number [] = []
 ended_from number (p ∷ parts) = line number p true ∷ ended_from (suc number) parts
 
 -- it has read these bytes, which stand from an offset on, and answered the lines that ended
-pub record HasReadLines (limit at : ℕ) (bytes : List ℕ) (told : List JudgedLine) (r : LineReaderValue) : Type 0 where
+pub record HasReadLines (settings : Settings) (at : ℕ) (bytes : List ℕ) (told : List JudgedLine) (r : LineReaderValue) : Type 0 where
   pub ended : List Part
   pub last : Part
   pub parts : parts_by is_line_feed at bytes ≡ ended ++ last ∷ []
-  pub answers : AllZip (IsAnswer limit) (ended_from 1 ended) told
+  pub answers : AllZip (IsAnswer settings) (ended_from 1 ended) told
   pub count : r.ended ≡ length ended
-  pub goes_on : IsOpen limit last r
+  pub goes_on : IsOpen settings last r
 
 -- where a byte order mark may begin or go on, the input has its first bytes alone; else what follows changes nothing of it
 abbrev pub IsPlace : FrontMark → List ℕ → Bool → Type 0
@@ -55,7 +54,7 @@ IsPlace mark input false = (mark_length mark input ≤ length input) × ((more :
 
 -- it has read these bytes of an input, from its start, and answered the lines that ended
 pub record HasTold (settings : Settings) (input : List ℕ) (told : List JudgedLine) (r : LineReaderValue) : Type 0 where
-  pub reads : HasReadLines settings.depth (mark_length settings.mark input) (drop (mark_length settings.mark input) input) told r
+  pub reads : HasReadLines settings (mark_length settings.mark input) (drop (mark_length settings.mark input) input) told r
   pub place : IsPlace settings.mark input r.in_front
 
 -- out of memory: every further slice fails

@@ -1,6 +1,9 @@
 -- Whole lines of an input, judged without what is before them.
 use Rattle.std.specs.Prelude.{◌≡◌, ℕ, List, [], ◌∷◌, ◌++◌, length}
 use Rattle.std.specs.List.{AllZip}
+use Rattle.jx_run.specs.declared.texts.settings.FrontMark.TheVariants as on_mark
+use Rattle.jx_run.specs.declared.texts.settings.NameRule.TheVariants.{Any}
+use Rattle.jx_run.specs.declared.texts.settings.Settings.{Settings}
 use Rattle.jx_run.specs.declared.texts.verdict.Refusal.{Refusal}
 use Rattle.jx_run.specs.declared.texts.verdict.Refusal.TheVariants.{Stopped, Truncated, TooDeep, RepeatedName}
 use Rattle.jx_run.specs.Elements.{Part, part}
@@ -15,6 +18,10 @@ use Rattle.jx_ndjson.specs.Parts.{parts_by}
 use Rattle.jx_ndjson.specs.Reading.{ended_from}
 use Rattle.jx_ndjson.specs.Tally.{bad_of}
 
+-- read within a depth, and no byte order mark is ignored
+abbrev pub unmarked : ℕ → Settings
+unmarked limit = record { depth = limit; mark = on_mark.Refused; names = Any }
+
 pub record WholeLinesValue : Type 0 where
   -- how many bytes and how many lines there are
   pub len : ℕ
@@ -26,7 +33,7 @@ pub record WholeLinesValue : Type 0 where
 pub record AreWhole (limit : ℕ) (bytes : List ℕ) (answers : List JudgedLine) (v : WholeLinesValue) : Type 0 where
   pub ended : List Part
   pub parts : parts_by is_line_feed 0 bytes ≡ ended ++ part (length bytes) [] ∷ []
-  pub are_answers : AllZip (IsAnswer limit) (ended_from 1 ended) answers
+  pub are_answers : AllZip (IsAnswer (unmarked limit)) (ended_from 1 ended) answers
   pub len_is : v.len ≡ length bytes
   pub count_is : v.count ≡ length answers
   pub bad_are : v.bad ≡ bad_of answers

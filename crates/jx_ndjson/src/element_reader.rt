@@ -11,8 +11,8 @@ ghost use Rattle.jx_ndjson.specs.inside.ElementSteps.{is_passed_by};
 
 use jx_lex::Span;
 use jx_run::{
-    FrontMark, JudgedElement, Reader, Settings, ended_there, ends_open_behind, front,
-    fronts_decide_where_texts_begin, is_mark_alone, sequences_are_read_part_by_part,
+    FrontMark, JudgedElement, Reader, Settings, beginning_of_a_text_by_its_front,
+    elements_of_two_parts, ended_there, ends_open_behind, front, is_mark_alone,
 };
 use memchr::memchr;
 use std::alloc::{AllocError, Global};
@@ -47,7 +47,7 @@ fn is_passed(mark: FrontMark, first: &[u8], span: Span) -> bool
     requires { span.start ≤ span.end }
     ensures { (input : List ℕ) → span.end ≡ length input → (span.start ≡ 0 → first.now ≡ take 3 input) → result ≡ is_passed_by mark input span }
 {
-    fronts_decide_where_texts_begin();
+    beginning_of_a_text_by_its_front();
     match mark {
         FrontMark::Refused => false,
         FrontMark::Ignored if span.start == 0 => is_mark_alone(front(first, mark), span),
@@ -82,7 +82,7 @@ impl ElementReader {
         ensures told { HasToldElements settings.now [] [] result }
         ensures start { result.reader.start + result.reader.count ≡ 0 }
     {
-        sequences_are_read_part_by_part();
+        elements_of_two_parts();
         ElementReader {
             mark: settings.mark,
             first: Vec::new(alloc),
@@ -119,7 +119,7 @@ impl ElementReader {
             → HasToldElements settings (input ++ take to slice.now) told self.new) }
         ensures count { OnOk result (self.new.reader.start + self.new.reader.count ≡ self.old.reader.start + self.old.reader.count + to) }
     {
-        sequences_are_read_part_by_part();
+        elements_of_two_parts();
         self.keep(&slice[..to])?;
         self.reader.feed_beginning(slice, to)?;
         self.open_ended = ends_open_behind(self.open_ended, &slice[..to]);
@@ -131,7 +131,7 @@ impl ElementReader {
         ensures { (settings : Settings) (input : List ℕ) (told : List JudgedElement) (h : HasToldElements settings input told self.now)
             → AllZip (IsJudgedElement settings.depth) (elements 0 input) (h.judged ++ listed result) }
     {
-        sequences_are_read_part_by_part();
+        elements_of_two_parts();
         let span = Span {
             start: self.reader.start(),
             end: self.reader.end(),
@@ -139,12 +139,12 @@ impl ElementReader {
         ended_there(span, self.reader.verdict(), self.open_ended)
     }
 
-    /// The same without such a token start.
+    /// The element that goes on, if it ends here, unless it is a byte order mark that is ignored.
     fn without_mark(&self, judged: Option<JudgedElement>) -> Option<JudgedElement>
         ensures { (settings : Settings) (input : List ℕ) (told : List JudgedElement) (h : HasToldElements settings input told self.now)
             → AllZip (IsJudgedElement settings.depth) (elements 0 input) (h.judged ++ listed judged) → AreJudgedElements settings input (told ++ listed result) }
     {
-        sequences_are_read_part_by_part();
+        elements_of_two_parts();
         let span = Span {
             start: self.reader.start(),
             end: self.reader.end(),
@@ -171,7 +171,7 @@ impl ElementReader {
             → HasToldElements settings (input ++ 0x1e ∷ []) (told ++ listed result) self.new }
         ensures count { self.new.reader.start + self.new.reader.count ≡ self.old.reader.start + self.old.reader.count + 1 }
     {
-        sequences_are_read_part_by_part();
+        elements_of_two_parts();
         let judged = self.judged();
         let element = self.without_mark(judged);
         let end = self.reader.end();

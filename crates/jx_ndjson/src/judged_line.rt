@@ -32,7 +32,7 @@ pub struct JudgedLine {
     pub verdict: LineVerdict,
 }
 
-/// The same refusal of bytes that stand so much further on.
+/// The refusal of bytes so much further on.
 fn moved_refusal(by: usize, refusal: Refusal) -> Refusal
     ensures { result ≡ moved_refusal by refusal }
 {
@@ -50,7 +50,7 @@ fn moved_refusal(by: usize, refusal: Refusal) -> Refusal
     }
 }
 
-/// The same verdict on bytes that stand so much further on.
+/// The verdict on bytes so much further on.
 fn moved_verdict(by: usize, verdict: LineVerdict) -> LineVerdict
     ensures { result ≡ moved_verdict by verdict }
 {
@@ -63,7 +63,7 @@ fn moved_verdict(by: usize, verdict: LineVerdict) -> LineVerdict
 }
 
 impl JudgedLine {
-    /// The same line after so many lines, which have so many bytes.
+    /// The line after so many lines, which have so many bytes.
     pub fn behind(self, lines: usize, bytes: usize) -> JudgedLine
         ensures { result ≡ moved_line lines bytes self }
     {

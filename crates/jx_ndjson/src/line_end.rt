@@ -14,7 +14,7 @@ fn line_feeds(block: u8x64) -> u64
     block.simd_eq(u8x64::splat(b'\n')).to_bitmask()
 }
 
-/// Bit k says that the byte k places behind `i` is a line feed, for the 64 bytes from `i` on.
+/// Bit k says that the byte k places after `i` is a line feed, for the 64 bytes from `i` on.
 #[inline(always)]
 fn feeds_at(text: &[u8], i: usize) -> u64
     requires { i + 64 ≤ length text.now }

@@ -1,9 +1,11 @@
 // Lines of an input that comes slice by slice.
-ghost use Rattle.std.specs.Prelude.{◌≡◌, ◌+◌, ◌<◌, ◌≤◌, ◌^◌, ◌++◌, ◌∷◌, ℕ, List, [], true, false, IsErr, IsTrue, IfOk, IfSome, OnErr, OnOk, length, map, take};
+ghost use Rattle.std.specs.Prelude.{◌≡◌, ◌+◌, ◌<◌, ◌≤◌, ◌^◌, ◌++◌, ◌∷◌, ℕ, List, [], true, false, IsErr, IsTrue, IfNone, IfOk, IfSome, OnErr, OnOk, length, map, take};
+ghost use Rattle.jx_run.specs.declared.texts.settings.FrontMark.TheVariants.{Refused};
 ghost use Rattle.jx_run.specs.declared.texts.settings.Settings.{Settings};
 ghost use Rattle.jx_run.specs.Elements.{Part, part};
+ghost use Rattle.jx_run.specs.Tree.{span};
 ghost use Rattle.jx_ndjson.specs.declared.judged_line.JudgedLine.{JudgedLine};
-ghost use Rattle.jx_ndjson.specs.Answers.{AreAnswers, IsAnswer};
+ghost use Rattle.jx_ndjson.specs.Answers.{AreAnswers, IsAnswer, mark_at};
 ghost use Rattle.jx_ndjson.specs.Lines.{line};
 ghost use Rattle.jx_ndjson.specs.Reading.{HasFailed, HasReadLines, HasTold, IsOpen, listed};
 ghost use Rattle.jx_ndjson.specs.WholeLines.{AreWhole, moved_line};
@@ -12,10 +14,7 @@ ghost use Rattle.jx_ndjson.specs.inside.Steps.{HasNoLineFeed, is_ignored, is_nex
 use crate::judged_line::{JudgedLine, blanks_behind, is_unended, told};
 use crate::whole_lines::WholeLines;
 use jx_lex::{Depth, Span};
-use jx_run::{
-    FrontMark, Reader, Settings, a_refused_mark_changes_nothing, ends_open_behind,
-    reader_is_grammar,
-};
+use jx_run::{FrontMark, NameRule, Reader, Settings, ends_open_behind, reader_and_grammar};
 use memchr::memchr;
 use std::alloc::{AllocError, Global};
 use std::marker::Model;
@@ -57,6 +56,7 @@ fn is_ignored(mark: FrontMark) -> bool
 /// order mark in front, which the settings may ignore, may be cut anywhere between two slices.
 #[derive(Drop)]
 pub struct LineReader {
+    alloc: Global,
     reader: Reader,
     is_blank: bool,
     open_ended: bool,
@@ -81,8 +81,14 @@ impl LineReader {
         ensures told { HasTold settings.now [] [] result }
         ensures start { result.reader.start + result.reader.count ≡ 0 }
     {
+        let first = Settings {
+            depth: settings.depth,
+            mark: settings.mark,
+            names: NameRule::Any,
+        };
         LineReader {
-            reader: Reader::new(alloc, &settings.depth.into(), 0),
+            alloc,
+            reader: Reader::new(alloc, &first, 0),
             is_blank: true,
             open_ended: false,
             ended: 0,
@@ -115,13 +121,19 @@ impl LineReader {
     /// Begins a line whose first byte has this offset.
     fn begin(&mut self, start: usize)
         requires { self.old.ended ≤ start }
-        ensures goes_on { (limit : ℕ) (p : Part) → IsOpen limit p self.old → IsOpen limit (part start []) self.new }
+        ensures goes_on { (settings : Settings) (p : Part) → IsOpen settings p self.old → mark_at settings.mark start ≡ Refused → IsOpen settings (part start []) self.new }
         ensures start { self.new.reader.start ≡ start }
         ensures count { self.new.reader.count ≡ 0 }
         ensures ended { self.new.ended ≡ self.old.ended }
         ensures in_front { self.new.in_front ≡ self.old.in_front }
     {
-        self.reader.reset(start);
+        if is_ignored(self.reader.settings().mark) {
+            // A byte order mark may stand in front of the first line alone.
+            let plain = self.depth().into();
+            self.reader = Reader::new(self.alloc, &plain, start);
+        } else {
+            self.reader.reset(start);
+        }
         self.is_blank = true;
         self.open_ended = false;
     }
@@ -131,7 +143,7 @@ impl LineReader {
         requires within { to ≤ length slice.now }
         requires fits { self.old.reader.start + self.old.reader.count + to < 2 ^ 64 }
         requires on_the_line { HasNoLineFeed (take to slice.now) }
-        ensures told { OnOk result ((limit at : ℕ) (before : List ℕ) (told : List JudgedLine) → HasReadLines limit at before told self.old → HasReadLines limit at (before ++ take to slice.now) told self.new) }
+        ensures told { OnOk result ((settings : Settings) (at : ℕ) (before : List ℕ) (told : List JudgedLine) → HasReadLines settings at before told self.old → HasReadLines settings at (before ++ take to slice.now) told self.new) }
         ensures start { self.new.reader.start ≡ self.old.reader.start }
         ensures count { OnOk result (self.new.reader.count ≡ self.old.reader.count + to) }
         ensures ended { self.new.ended ≡ self.old.ended }
@@ -147,10 +159,11 @@ impl LineReader {
 
     /// The line that goes on, as the next one, where it ends by a line feed or by the end of the input.
     fn judged(&self, number: usize, is_ended: bool) -> JudgedLine
-        ensures answer { (limit : ℕ) (p : Part) → IsOpen limit p self.now → IsAnswer limit (line number p is_ended) result }
+        ensures answer { (settings : Settings) (p : Part) → IsOpen settings p self.now → IsAnswer settings (line number p is_ended) result }
         ensures number { result.number ≡ number }
+        ensures span { result.span ≡ span self.now.reader.start (self.now.reader.start + self.now.reader.count) }
     {
-        a_refused_mark_changes_nothing();
+        reader_and_grammar();
         let span = Span {
             start: self.reader.start(),
             end: self.reader.end(),
@@ -166,12 +179,13 @@ impl LineReader {
     /// Ends the line by a line feed.
     fn end_line(&mut self) -> JudgedLine
         requires { self.old.reader.start + self.old.reader.count + 1 < 2 ^ 64 }
-        ensures told { (limit at : ℕ) (before : List ℕ) (told : List JudgedLine) → HasReadLines limit at before told self.old
-            → HasReadLines limit at (before ++ 0x0a ∷ []) (told ++ result ∷ []) self.new }
+        ensures told { (settings : Settings) (at : ℕ) (before : List ℕ) (told : List JudgedLine) → HasReadLines settings at before told self.old
+            → HasReadLines settings at (before ++ 0x0a ∷ []) (told ++ result ∷ []) self.new }
         ensures start { self.new.reader.start ≡ self.old.reader.start + self.old.reader.count + 1 }
         ensures count { self.new.reader.count ≡ 0 }
         ensures ended { self.new.ended ≡ self.old.ended + 1 }
         ensures in_front { self.new.in_front ≡ self.old.in_front }
+        ensures span { result.span ≡ span self.old.reader.start (self.old.reader.start + self.old.reader.count) }
     {
         let end = self.reader.end();
         let number = self.ended + 1;
@@ -186,10 +200,13 @@ impl LineReader {
         requires { self.old.reader.start + self.old.reader.count + length slice.now < 2 ^ 64 }
         ensures taken { IfOk result (λ step. step.taken ≤ length slice.now) }
         ensures goes_on { IfOk result (λ step. 0 < length slice.now → 0 < step.taken) }
-        ensures told { IfOk result (λ step. (limit at : ℕ) (before : List ℕ) (told : List JudgedLine) → HasReadLines limit at before told self.old
-            → HasReadLines limit at (before ++ take step.taken slice.now) (told ++ listed step.line) self.new) }
+        ensures told { IfOk result (λ step. (settings : Settings) (at : ℕ) (before : List ℕ) (told : List JudgedLine) → HasReadLines settings at before told self.old
+            → HasReadLines settings at (before ++ take step.taken slice.now) (told ++ listed step.line) self.new) }
         ensures count { IfOk result (λ step. self.new.reader.start + self.new.reader.count ≡ self.old.reader.start + self.old.reader.count + step.taken) }
         ensures ended { IfOk result (λ step. self.new.ended ≡ self.old.ended + length (listed step.line)) }
+        ensures goes_on_there { IfOk result (λ step. 0 < self.new.reader.count → self.new.reader.start ≡ self.old.reader.start) }
+        ensures spans { IfOk result (λ step. IfSome step.line (λ judged. (judged.span.start ≡ self.old.reader.start)
+            × (judged.span.end + 1 ≡ self.old.reader.start + self.old.reader.count + step.taken))) }
         ensures kept { OnErr result (self.new.ended ≡ self.old.ended) }
         ensures in_front { self.new.in_front ≡ self.old.in_front }
         ensures err { OnErr result (HasFailed self.new) }
@@ -222,6 +239,7 @@ impl LineReader {
             → HasTold settings (input ++ byte ∷ []) told self.new) }
         ensures count { OnOk result (self.new.reader.start + self.new.reader.count ≡ self.old.reader.start + self.old.reader.count + 1) }
         ensures ended { self.new.ended ≡ self.old.ended }
+        ensures goes_on_there { OnOk result (0 < self.new.reader.count → self.new.reader.start ≡ self.old.reader.start) }
         ensures err { OnErr result (HasFailed self.new) }
         ensures failed { HasFailed self.old → IsErr result }
     {
@@ -243,6 +261,9 @@ impl LineReader {
             → HasTold settings (input ++ take step.taken slice.now) (told ++ listed step.line) self.new) }
         ensures count { IfOk result (λ step. self.new.reader.start + self.new.reader.count ≡ self.old.reader.start + self.old.reader.count + step.taken) }
         ensures ended { IfOk result (λ step. self.new.ended ≡ self.old.ended + length (listed step.line)) }
+        ensures goes_on_there { IfOk result (λ step. 0 < self.new.reader.count → self.new.reader.start ≡ self.old.reader.start) }
+        ensures spans { IfOk result (λ step. IfSome step.line (λ judged. (judged.span.start ≡ self.old.reader.start)
+            × (judged.span.end + 1 ≡ self.old.reader.start + self.old.reader.count + step.taken))) }
         ensures kept { OnErr result (self.new.ended ≡ self.old.ended) }
         ensures err { OnErr result (HasFailed self.new) }
         ensures failed { HasFailed self.old → IsErr result }
@@ -275,6 +296,9 @@ impl LineReader {
             → HasTold settings (input ++ take step.taken slice.now) (told ++ listed step.line) self.new) }
         ensures count { IfOk result (λ step. self.new.reader.start + self.new.reader.count ≡ self.old.reader.start + self.old.reader.count + step.taken) }
         ensures ended { IfOk result (λ step. self.new.ended ≡ self.old.ended + length (listed step.line)) }
+        ensures goes_on_there { IfOk result (λ step. 0 < self.new.reader.count → self.new.reader.start ≡ self.old.reader.start) }
+        ensures spans { IfOk result (λ step. IfSome step.line (λ judged. (judged.span.start ≡ self.old.reader.start)
+            × (judged.span.end + 1 ≡ self.old.reader.start + self.old.reader.count + step.taken))) }
         ensures kept { OnErr result (self.new.ended ≡ self.old.ended) }
         ensures err { OnErr result (HasFailed self.new) }
         ensures failed { HasFailed self.old → IsErr result }
@@ -286,10 +310,19 @@ impl LineReader {
         }
     }
 
+    /// How many bytes of the line that goes on it has read.
+    pub fn open_len(&self) -> usize
+        ensures { result ≡ self.now.reader.count }
+    {
+        self.reader.end() - self.reader.start()
+    }
+
     /// The last line, where no line feed ends it, if the input ends here.
     pub fn last_line(&self) -> Option<JudgedLine>
         ensures told { (settings : Settings) (input : List ℕ) (told : List JudgedLine) → HasTold settings input told self.now → AreAnswers settings input (told ++ listed result) }
         ensures number { IfSome result (λ judged. judged.number ≡ self.now.ended + 1) }
+        ensures none { IfNone result (self.now.reader.count ≡ 0) }
+        ensures span { IfSome result (λ judged. judged.span ≡ span self.now.reader.start (self.now.reader.start + self.now.reader.count)) }
     {
         if self.reader.start() == self.reader.end() {
             return None;
@@ -317,7 +350,7 @@ impl LineReader {
         ensures ended { self.new.ended ≡ self.old.ended + lines.now.count }
         ensures in_front { self.new.in_front ≡ self.old.in_front }
     {
-        reader_is_grammar();
+        reader_and_grammar();
         let start = self.reader.start() + lines.len();
         self.begin(start);
         self.ended += lines.count();

@@ -1,17 +1,17 @@
 // Lines that are counted while an input comes slice by slice. Those that are not valid JSON are kept until they are
 // taken.
-ghost use Rattle.std.specs.Prelude.{◌≡◌, ◌+◌, ◌<◌, ◌≤◌, ◌^◌, ◌++◌, ◌∷◌, ℕ, List, [], if◌then◌else◌, length, take, IfOk, IfSome, OnOk};
+ghost use Rattle.std.specs.Prelude.{◌≡◌, ◌+◌, ◌<◌, ◌≤◌, ◌^◌, ◌++◌, ◌∷◌, ℕ, List, [], false, if◌then◌else◌, length, take, IfOk, IfSome, IsTrue, OnOk};
 ghost use Rattle.jx_run.specs.declared.texts.settings.FrontMark.TheVariants.{Refused};
 ghost use Rattle.jx_run.specs.declared.texts.settings.Settings.{Settings};
 ghost use Rattle.jx_ndjson.specs.declared.judged_line.JudgedLine.{JudgedLine};
 ghost use Rattle.jx_ndjson.specs.Reading.{listed};
-ghost use Rattle.jx_ndjson.specs.Tally.{HasTaken, IsTallied, bad_of, counted, is_accepted, is_blank_line, is_refused};
+ghost use Rattle.jx_ndjson.specs.Tally.{HasTaken, IsTallied, bad_of, count_of, counted, is_accepted, is_blank_line, is_refused};
 ghost use Rattle.jx_ndjson.specs.WholeLines.{AreWhole};
 
 use crate::judged_line::{JudgedLine, LineVerdict};
 use crate::line_reader::LineReader;
 use crate::text_lines::texts_in_front;
-use crate::whole_lines::WholeLines;
+use crate::whole_lines::{WholeLines, append_behind};
 use jx_run::Settings;
 use std::alloc::{AllocError, Global};
 use std::marker::Model;
@@ -117,6 +117,18 @@ fn push_bad(waiting: &mut Vec<JudgedLine>, judged: JudgedLine) -> Result<(), All
     Ok(())
 }
 
+/// How many of these lines have no byte, or white space alone.
+fn blanks_among(judged: &[JudgedLine]) -> usize
+    ensures count { result ≡ count_of is_blank_line judged.now }
+    ensures most { result ≤ length judged.now }
+{
+    let mut count = 0;
+    for at in 0..judged.len() {
+        count = one_more(count, is_blank_line(judged[at].verdict));
+    }
+    count
+}
+
 /// A reader of lines from an input's start, which counts them. Those that are not valid JSON wait here until they are
 /// taken. It keeps no byte of the input.
 #[derive(Drop)]
@@ -200,6 +212,36 @@ impl LineTally {
         Ok(texts.len())
     }
 
+    /// Whether the next byte begins a line, and no byte order mark may begin with it.
+    pub fn is_between(&self) -> bool
+        ensures { IsTrue result → (self.now.lines.in_front ≡ false) × (self.now.lines.reader.count ≡ 0) }
+    {
+        self.lines.is_between()
+    }
+
+    /// Takes whole lines that were judged without it, as if it had taken their bytes after all that it has taken. It stands between
+    /// two lines. Fails only when out of memory.
+    pub fn take_whole(&mut self, whole: &WholeLines) -> Result<(), AllocError>
+        requires in_front { self.old.lines.in_front ≡ false }
+        requires between { self.old.lines.reader.count ≡ 0 }
+        requires fits { self.old.lines.reader.start + whole.now.len < 2 ^ 64 }
+        ensures taken { OnOk result ((settings : Settings) (input bytes : List ℕ) (given answers : List JudgedLine) → HasTaken settings input given self.old
+            → AreWhole settings.depth bytes answers whole.now → HasTaken settings (input ++ bytes) given self.new) }
+        ensures count { OnOk result (self.new.lines.reader.start + self.new.lines.reader.count ≡ self.old.lines.reader.start + whole.now.len) }
+    {
+        let bad = whole.bad();
+        let accepted = whole.count() - bad.len();
+        let blank = blanks_among(bad);
+        // It is no less than any count.
+        let ended = self.lines.ended();
+        append_behind(&mut self.waiting, bad, ended, self.lines.end())?;
+        self.lines.pass(whole);
+        self.counts.accepted += accepted;
+        self.counts.refused += bad.len() - blank;
+        self.counts.blank += blank;
+        Ok(())
+    }
+
     /// Takes a slice up to and with its first line feed, or less, and answers how many bytes those are.
     fn take_line(&mut self, slice: &[u8]) -> Result<usize, AllocError>
         requires fits { self.old.lines.reader.start + self.old.lines.reader.count + length slice.now < 2 ^ 64 }
@@ -247,6 +289,22 @@ impl LineTally {
             at += self.take_step(&slice[at..])?;
         }
         Ok(())
+    }
+
+    /// Takes a slice after all bytes that it has taken, until more than so many lines wait. Answers whether it took all of it.
+    pub(crate) fn feed_few(&mut self, slice: &[u8], most: usize) -> Result<bool, AllocError>
+        requires fits { self.old.lines.reader.start + self.old.lines.reader.count + length slice.now < 2 ^ 64 }
+        ensures { IfOk result (λ all. IsTrue all → (settings : Settings) (input : List ℕ) (given : List JudgedLine) → HasTaken settings input given self.old
+            → HasTaken settings (input ++ slice.now) given self.new) }
+    {
+        let mut at = 0;
+        while at < slice.len() {
+            at += self.take_step(&slice[at..])?;
+            if self.waiting.len() > most {
+                return Ok(false);
+            }
+        }
+        Ok(true)
     }
 
     /// The lines that wait, in their order.

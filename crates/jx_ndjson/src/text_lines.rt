@@ -8,7 +8,7 @@ use crate::line_end::line_end;
 use crate::whole_lines::WholeLines;
 use jx_lex::{Depth, LexExit, LexState};
 use jx_reduce::{Expect, KnownStack, Whole};
-use jx_run::{read_between, reader_is_grammar};
+use jx_run::{read_between, reader_and_grammar};
 use std::alloc::{AllocError, Global};
 
 /// Whether a text ends where a scan of it and its token starts led to.
@@ -37,7 +37,7 @@ fn is_text(stack: &mut KnownStack, slice: &[u8], to: usize) -> Result<bool, Allo
     ensures depth { IfOk result (λ is. IsTrue is → stack.new.depth ≡ stack.old.depth) }
     ensures text { IfOk result (λ is. IsTrue is → IsTextWithin stack.old.depth (take to slice.now)) }
 {
-    reader_is_grammar();
+    reader_and_grammar();
     stack.reset();
     let exit = read_between(stack, slice, to)?;
     Ok(is_end(exit, stack.whole()))
@@ -70,7 +70,7 @@ pub fn texts_in_front(alloc: Global, slice: &[u8], depth: Depth) -> Result<Whole
     ensures texts { IfOk result (λ whole. whole.bad ≡ []) }
     ensures within { IfOk result (λ whole. whole.len ≤ length slice.now) }
 {
-    reader_is_grammar();
+    reader_and_grammar();
     let mut stack = KnownStack::new(alloc, depth);
     let mut len = 0;
     let mut count = 0;

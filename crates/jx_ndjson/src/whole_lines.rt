@@ -4,7 +4,7 @@ ghost use Rattle.jx_ndjson.specs.declared.judged_line.JudgedLine.{JudgedLine};
 ghost use Rattle.jx_ndjson.specs.WholeLines.{AreWhole, moved_line};
 
 use crate::judged_line::JudgedLine;
-use jx_run::reader_is_grammar;
+use jx_run::reader_and_grammar;
 use std::alloc::AllocError;
 use std::marker::Model;
 
@@ -28,7 +28,7 @@ impl Model for WholeLines {
 }
 
 /// Appends the same lines after so many lines, which have so many bytes. When out of memory nothing is appended.
-fn append_behind(
+pub(crate) fn append_behind(
     bad: &mut Vec<JudgedLine>,
     more: &[JudgedLine],
     lines: usize,
@@ -87,7 +87,7 @@ impl WholeLines {
         ensures len { OnOk result (self.new.len ≡ self.old.len + behind.now.len) }
         ensures err { OnErr result (self.new ≡ self.old) }
     {
-        reader_is_grammar();
+        reader_and_grammar();
         append_behind(&mut self.bad, &behind.bad, self.count, self.len)?;
         self.len += behind.len;
         self.count += behind.count;

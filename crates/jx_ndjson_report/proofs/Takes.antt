@@ -171,7 +171,7 @@ taken_none task t told good bad none = record { answers = []; told = told; good_
 
 -- ---- what is due
 
-pub due : ((settings : Settings) (input : List ℕ) (told : List JudgedLine) (r : LineReaderValue) → HasTold settings input told r → AllZip (IsAnswer settings.depth) (ended_lines settings.mark input) told)
+pub due : ((settings : Settings) (input : List ℕ) (told : List JudgedLine) (r : LineReaderValue) → HasTold settings input told r → AllZip (IsAnswer settings) (ended_lines settings.mark input) told)
     → (task : LinesTask) (bytes given : List ℕ) (t : LineTellerValue) → HasTaken task bytes given t → IsDue task bytes (given ++ t.ready)
 due law task bytes given t h = record { answers = h.answers; are_answers = law task.settings bytes h.answers t.lines h.told; written = h.written }
 

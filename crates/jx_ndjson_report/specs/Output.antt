@@ -113,7 +113,7 @@ exit_of (j ∷ bad) = Bad
 -- what is due of the bytes of an input: a line for each bad one of the lines that a line feed ends
 pub record IsDue (task : LinesTask) (input output : List ℕ) : Type 0 where
   pub answers : List JudgedLine
-  pub are_answers : AllZip (IsAnswer task.settings.depth) (ended_lines task.settings.mark input) answers
+  pub are_answers : AllZip (IsAnswer task.settings) (ended_lines task.settings.mark input) answers
   pub written : output ≡ bad_lines task answers
 
 -- the whole output for an input, and the status

@@ -9,7 +9,7 @@ use crate::teller::Teller;
 use crate::words::add_element;
 use jx_ends::Exit;
 use jx_lex::Depth;
-use jx_ndjson::{ElementReader, told_elements_are_ended};
+use jx_ndjson::{ElementReader, ended_elements_of_a_reader};
 use jx_run::{ElementVerdict, JudgedElement};
 use std::alloc::{AllocError, Global};
 use std::marker::Model;
@@ -119,8 +119,8 @@ impl Teller for ElementTeller {
 
     ghost limit = { λ task. task.settings.depth };
 
-    fn what_is_taken_is_due() {
-        told_elements_are_ended();
+    fn lines_taken_and_waiting() {
+        ended_elements_of_a_reader();
     }
 
     fn end(&self) -> usize {

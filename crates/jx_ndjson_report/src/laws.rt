@@ -9,7 +9,7 @@ ghost use Rattle.jx_ndjson_report.specs.Elements.{ElementsOutput};
 
 /// The whole output and the status are those of a report on the sequence (`jx_report`), whose output is one. So the
 /// report while an input is read is, once it was read to its end, byte for byte the report on it at once.
-pub fn elements_are_told_as_by_seq()
+pub fn output_as_of_seq()
     ensures same { (task : ElementsTask) (input output : List ℕ) (exit : Exit) → task.settings.names ≡ Any → task.front.items ≡ [] → task.is_quiet ≡ false
         → ElementsOutput task input output exit → Output Seq task.settings input output exit }
 {}

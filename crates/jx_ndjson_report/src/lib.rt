@@ -12,7 +12,7 @@ mod teller;
 mod words;
 
 pub use element_teller::exit_past;
-pub use laws::elements_are_told_as_by_seq;
+pub use laws::output_as_of_seq;
 pub use reporting::{report_lines, report_sequence};
 pub use task::{BlankRule, ElementsTask, LineForm, LinesTask};
-pub use words::add_element;
+pub use words::{add_counts, add_element, add_line, is_bad};

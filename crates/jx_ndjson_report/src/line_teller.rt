@@ -14,7 +14,7 @@ use crate::teller::Teller;
 use crate::words::{add_counts, add_line, is_bad, is_good};
 use jx_ends::Exit;
 use jx_lex::{Depth, Span};
-use jx_ndjson::{JudgedLine, LineReader, WholeLines, texts_in_front, what_is_told_are_ended_lines};
+use jx_ndjson::{JudgedLine, LineReader, WholeLines, ended_lines_of_a_reader, texts_in_front};
 use std::alloc::{AllocError, Global};
 use std::marker::Model;
 
@@ -284,8 +284,8 @@ impl Teller for LineTeller {
 
     ghost limit = { λ task. task.settings.depth };
 
-    fn what_is_taken_is_due() {
-        what_is_told_are_ended_lines();
+    fn lines_taken_and_waiting() {
+        ended_lines_of_a_reader();
     }
 
     fn end(&self) -> usize {

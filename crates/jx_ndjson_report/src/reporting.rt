@@ -58,7 +58,7 @@ fn write_due<T: Teller, W: Sink>(
     ensures unread { IfErr result (λ fault. fault ≢ ReportFault.Read) }
     ensures uncut { IfErr result (λ fault. fault ≢ ReportFault.Pieces) }
 {
-    T::what_is_taken_is_due();
+    T::lines_taken_and_waiting();
     if batch.len() > usize::MAX - teller.end() {
         return Err(ReportFault::Memory);
     }
@@ -94,7 +94,7 @@ fn write_all_due<T: Teller, R: Threads + Wait + Sync, S: Source, W: Sink, G: Gat
     ensures beginning { IsErrOf result ReportFault.Write → WroteInPart (T.is_due task.now) (T.is_output task.now) (S.remaining reader.old) (S.remaining reader.new) (W.contents writer.old) (W.contents writer.new) }
     ensures uncut { IfErr result (λ fault. fault ≢ ReportFault.Pieces) }
 {
-    T::what_is_taken_is_due();
+    T::lines_taken_and_waiting();
     for _ in 0..u64::MAX {
         match reader.read(buffer) {
             Ok(0) => return Ok(()),
@@ -144,7 +144,7 @@ fn report_by<T: Teller, R: Threads + Wait + Sync, S: Source, W: Sink, G: Gate + 
     ensures beginning { IsErrOf result ReportFault.Write → WroteInPart (T.is_due task.now) (T.is_output task.now) (S.remaining reader.old) (S.remaining reader.new) (W.contents writer.old) (W.contents writer.new) }
     ensures uncut { IfErr result (λ fault. fault ≢ ReportFault.Pieces) }
 {
-    T::what_is_taken_is_due();
+    T::lines_taken_and_waiting();
     let mut buffer: Vec<u8> = vec![in crew.alloc; 0; room]?;
     write_all_due(crew, reader, writer, task, teller, &mut buffer, piece)?;
     let exit = teller.finish(task)?;

@@ -30,7 +30,7 @@ pub(crate) trait Teller {
     ghost end: { Self → ℕ };
 
     /// The lines that were written and those that wait are the lines that are due.
-    fn what_is_taken_is_due()
+    fn lines_taken_and_waiting()
         ensures due { (task : Self.Task) (bytes given : List ℕ) (teller : Self) → has_taken task bytes given teller → is_due task bytes (given ++ ready teller) };
 
     /// The offset just past the last byte that it has taken.

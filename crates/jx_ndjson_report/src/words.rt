@@ -24,7 +24,7 @@ pub(crate) fn is_good(verdict: LineVerdict) -> bool
 }
 
 /// Whether a line is reported.
-pub(crate) fn is_bad(rule: BlankRule, verdict: LineVerdict) -> bool
+pub fn is_bad(rule: BlankRule, verdict: LineVerdict) -> bool
     ensures { result ≡ is_bad rule verdict }
 {
     match verdict {
@@ -145,7 +145,7 @@ fn add_object(out: &mut Vec<u8>, front: &[u8], judged: JudgedLine) -> Result<(),
 }
 
 /// Appends the report on a line in a form.
-pub(crate) fn add_line(
+pub fn add_line(
     out: &mut Vec<u8>,
     form: LineForm,
     front: &[u8],
@@ -191,7 +191,7 @@ fn add_object_counts(
 }
 
 /// Appends how many lines are good and how many bad in a form.
-pub(crate) fn add_counts(
+pub fn add_counts(
     out: &mut Vec<u8>,
     form: LineForm,
     front: &[u8],

@@ -2,7 +2,7 @@
 use Rattle.std.specs.Prelude.{ℕ, List, ◌++◌, Option}
 use Rattle.jx_parallel.specs.Offsets.{IsContent, StandThere}
 
--- what a reader has read, and what was given of what is told of that
+-- what a reader has read, and what was given of its reports
 abbrev pub Readings : Type 0 → Type 1
 Readings Reader = List ℕ → List ℕ → Reader → Type 0
 

@@ -107,7 +107,7 @@ pub(crate) fn next_run<K: Known>(runs: &mut Vec<Kept<K>>, lead: &Lead<K>) -> Opt
     }
 }
 
-/// Lets the reader follow what stands in the book. It waits for the lock.
+/// Lets the reader follow the joined results of the accumulator. It waits for the lock.
 pub(crate) fn follow_all<K: Known, R: Wait>(
     rt: &R,
     book: &Book<K>,

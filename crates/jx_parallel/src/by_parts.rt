@@ -70,7 +70,7 @@ fn judged_between<
     Ok(parts.into_inner())
 }
 
-/// The same as `read_round`, of the text that `K` names.
+/// Reads a round as `read_round` does, of the text that `K` names.
 fn read_round_of<
     F: SharedAt + Sync,
     K: Ruled + Send + Sync,
@@ -105,7 +105,8 @@ fn read_round_of<
 ///
 /// Each worker reads chunks of as many bytes as the buffer has, at least 1, each at its offset, into a buffer of its own. It judges
 /// what it can of each without the bytes before and after. There are so many chunks. When the workers have ended, the reader
-/// takes their parts in order, and reads the bytes between. A read that gives no byte ends the text.
+/// takes their parts in order, and reads the bytes between. A read that gives no byte ends the text. A reader that is full ends
+/// the round, and what was judged behind is judged again.
 ///
 /// Memory is kept for a buffer for each worker, and for the parts. If an allocation or a read of a worker fails, the calling
 /// thread reads what is left.

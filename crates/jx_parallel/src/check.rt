@@ -21,7 +21,7 @@ use std::marker::Brand;
 use std::sync::{Mutex, Wait};
 use std::thread::Threads;
 
-/// How many pieces the calling thread reads alone. A byte order mark stands in them, and a shorter text starts no thread.
+/// How many chunks the calling thread reads alone. They include a byte order mark, and a shorter text starts no thread.
 const FIRST: usize = 4;
 
 /// The reader for the first worker, and nothing for the others.
@@ -49,14 +49,14 @@ fn lead_of<K: Known>(results: Vec<Option<Lead<K>>>) -> Option<Lead<K>> {
     None
 }
 
-/// What workers leave of a text: the reader, and the runs behind it.
+/// The state of a text between workers: the reader, and the partial results after it.
 #[derive(Drop)]
 struct Shared<K: Known> {
     lead: Lead<K>,
     runs: Vec<Kept<K>>,
 }
 
-/// Shares what stands behind the reader among workers.
+/// Reads the bytes after the reader's by several workers.
 fn share<F: SharedAt + Sync, K: Known + Send + Sync, R: Threads + Wait + Sync>(
     rt: &R,
     alloc: Global,
@@ -91,7 +91,7 @@ fn share<F: SharedAt + Sync, K: Known + Send + Sync, R: Threads + Wait + Sync>(
     })
 }
 
-/// The same, of the text that `K` names.
+/// Checks the text that `K` names, as `check_at` does.
 fn check_by<F: SharedAt + Sync, K: Known + Send + Sync, R: Threads + Wait + Sync>(
     rt: &R,
     alloc: Global,
@@ -122,11 +122,11 @@ fn check_by<F: SharedAt + Sync, K: Known + Send + Sync, R: Threads + Wait + Sync
 /// its objects have.
 ///
 /// Each worker reads `piece` bytes at a time, at least 1, into a buffer of its own. The calling thread reads the first four
-/// pieces alone, and starts no thread where the text ends there. It waits for the workers. Behind a fault of the text the
+/// chunks alone, and starts no thread where the text ends there. It waits for the workers. After a fault of the text the
 /// workers stop, so the rest may stay unread. The first read that gives no byte ends the text.
 ///
-/// Memory is kept for a buffer for each worker and one more, and for runs of what was read behind a piece that a worker still
-/// has in hand. A read that fails is reported with its reason, unless a fault of the text stands before it.
+/// Memory is kept for a buffer for each worker and one more, and for partial results of bytes after a chunk that a worker still
+/// has in hand. A read that fails is reported with its reason, unless a fault of the text comes before it.
 pub fn check_at<F: SharedAt + Sync, R: Threads + Wait + Sync>(
     rt: &R,
     alloc: Global,
@@ -136,7 +136,7 @@ pub fn check_at<F: SharedAt + Sync, R: Threads + Wait + Sync>(
     settings: &Settings,
 ) -> Result<Verdict, CheckFault<F::Fault>>
     requires piece { 1 ≤ piece }
-    // For every number of workers, size of pieces and order of their steps, it is the verdict on the content.
+    // For every number of workers, size of chunks and order of their steps, it is the verdict on the content.
     ensures ok { IfOk result (IsVerdictOn (F.content file.now) settings.now) }
     ensures fault { IfErr result (ReadFailsBy (F.may_fail file.now)) }
 {

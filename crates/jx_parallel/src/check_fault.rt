@@ -5,7 +5,7 @@ use std::alloc::AllocError;
 /// Why there is no verdict on a text.
 #[derive(Debug, Drop)]
 pub enum CheckFault<E> {
-    /// A growth of memory was refused.
+    /// An allocation failed.
     Memory,
     /// A read failed, for this reason. Nothing in front of what it was to read decides the verdict.
     Read(E),

@@ -15,7 +15,7 @@ use crate::shared_at::SharedAt;
 use jx_run::Verdict;
 use std::sync::Wait;
 
-/// The verdict where the reader has come to the end of the text.
+/// The verdict where the reader has read to the end of the text.
 fn judged<F: SharedAt, K: Known>(_file: &F, lead: Lead<K>) -> Verdict
     requires text { K.text ≡ F.content _file.now }
     requires end { EndsBefore (F.content _file.now) lead.count }

@@ -28,7 +28,7 @@ impl<K: Known> Model for Kept<K> {
 }
 
 impl<K: Known> Kept<K> {
-    /// Reads bytes that stand from `at` on. Memory is refused too where the last of them has no offset.
+    /// Reads the bytes from `at` on. It is also out of memory where the last of them has no offset.
     pub fn read(alloc: Global, bytes: &[u8], at: usize, depth: Depth) -> Result<Kept<K>, AllocError>
         requires there { StandThere K.text at bytes.now }
         requires depth { depth ≡ K.settings.depth }

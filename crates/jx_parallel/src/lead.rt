@@ -7,7 +7,7 @@ ghost use Rattle.jx_parallel.specs.Offsets.{StandThere};
 
 use crate::kept::Kept;
 use crate::known::Known;
-use jx_run::{Reader, Settings, Verdict, reader_is_grammar, verdict_by_settings_is_one};
+use jx_run::{Reader, Settings, Verdict, reader_and_grammar, unique_verdict_by_settings};
 use std::alloc::{AllocError, Global};
 use std::marker::{Model, PhantomData};
 
@@ -55,19 +55,19 @@ impl<K: Known> Lead<K> {
         self.reader.is_in_front()
     }
 
-    /// The verdict on the whole text, where a fault was met: no byte behind it changes that.
+    /// The verdict on the whole text, where a fault was met: no byte after it changes that.
     pub fn decided(&self) -> Option<Verdict>
         ensures { IfSome result (IsVerdictOn K.text K.settings) }
     {
-        reader_is_grammar();
-        verdict_by_settings_is_one();
+        reader_and_grammar();
+        unique_verdict_by_settings();
         if !self.reader.is_done() {
             return None;
         }
         Some(self.reader.verdict())
     }
 
-    /// Reads the bytes that stand behind all that it has read. Memory is refused too where the last of them has no offset.
+    /// Reads the bytes after all that it has read. It is also out of memory where the last of them has no offset.
     pub fn feed(self, bytes: &[u8]) -> Result<Lead<K>, AllocError>
         requires { StandThere K.text self.count bytes.now }
     {

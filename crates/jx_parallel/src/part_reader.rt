@@ -26,7 +26,7 @@ pub trait PartReader: Drop {
     ghost use Rattle.std.specs.Prelude.{ℕ, List};
     ghost use Rattle.jx_parallel.specs.declared.part_reader.PartRule.{PartRule};
 
-    /// What judging a part gives.
+    /// The result of judging a part.
     type Part: Drop + Send;
 
     /// Judging these bytes from an offset on gives this.
@@ -66,4 +66,9 @@ pub trait PartReader: Drop {
         requires fits { end self.old + len < 2 ^ 64 }
         ensures taken { IfOk result (λ is. is ≡ true → (xs ys given : List ℕ) → has_read rule.now xs given self.old → length ys ≡ len → is_part rule.now (length xs) ys part → has_read rule.now (xs ++ ys) given self.new) }
         ensures left { IfOk result (λ is. is ≡ false → self.new ≡ self.old) };
+
+    /// Whether its output is to be written before it reads on. A round ends then.
+    fn is_full(&self) -> bool {
+        false
+    }
 }

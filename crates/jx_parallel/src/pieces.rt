@@ -1,10 +1,10 @@
-// Which piece of a text is read next.
+// Which chunk of a text is read next.
 use std::sync::atomic::{AtomicU64, Ordering};
 
-/// From this number on no piece is drawn.
+/// From this number on no chunk is taken.
 const STOPPED: u64 = 1 << 62;
 
-/// The pieces of a text from an offset on, which workers draw in order. No answer rests on what is drawn.
+/// The chunks of a text from an offset on, which workers take in order. No answer depends on who takes which.
 #[derive(Drop)]
 pub(crate) struct Pieces {
     next: AtomicU64,
@@ -13,7 +13,7 @@ pub(crate) struct Pieces {
 }
 
 impl Pieces {
-    /// Pieces of so many bytes, of which none is drawn.
+    /// Chunks of so many bytes, of which none is taken.
     pub fn new(base: usize, size: usize) -> Pieces {
         Pieces {
             next: AtomicU64::new(0),
@@ -22,12 +22,12 @@ impl Pieces {
         }
     }
 
-    /// How many bytes so many pieces have.
+    /// The number of bytes of so many chunks.
     pub fn bytes(&self, count: u64) -> usize {
         self.size.saturating_mul(count as usize)
     }
 
-    /// Draws so many pieces in a row, and returns where they begin; none once they were stopped.
+    /// Takes so many chunks in a row, and returns where they begin; none once they were stopped.
     pub fn draw(&self, count: u64) -> Option<usize> {
         let number = self.next.fetch_add(count, Ordering::SeqCst);
         if number >= STOPPED {
@@ -36,7 +36,7 @@ impl Pieces {
         Some(self.base.saturating_add(self.bytes(number)))
     }
 
-    /// Lets no more be drawn.
+    /// Lets no more be taken.
     pub fn stop(&self) {
         self.next.store(STOPPED, Ordering::SeqCst);
     }

@@ -70,7 +70,7 @@ pub(crate) fn lead_there<F: SharedAt, K: Known>(
     Ok((lead, count))
 }
 
-/// Lets the reader read on up to an offset, or to the end or a fault of the text, and returns whether it came to the offset.
+/// Lets the reader read on up to an offset, or to the end or a fault of the text, and returns whether it is at the offset.
 pub(crate) fn lead_to<F: SharedAt, K: Known, R: Wait>(
     rt: &R,
     file: &F,

@@ -16,7 +16,7 @@ pub trait SharedAt {
     ghost may_fail: { Self → Self.Fault → Type 0 };
 
     /// Reads from an offset on up to as many bytes as there is room for, and returns how many; 0 at the end of the bytes and
-    /// behind it, or where there is no room.
+    /// after it, or where there is no room.
     fn read_at(&self, buf: &mut [u8], offset: usize) -> Result<usize, Self::Fault>
         ensures bound { ReadsAtMost result buf.new }
         ensures bytes { ReadsThere (content self.now) offset result buf.new }

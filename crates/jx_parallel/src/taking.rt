@@ -37,7 +37,7 @@ pub(crate) fn read_there<F: SharedAt, L: PartReader>(
     Ok(count)
 }
 
-/// Lets a reader go on up to an offset, or to the end of the text.
+/// Lets a reader go on up to an offset, to the end of the text, or until it is full.
 pub(crate) fn read_to<F: SharedAt, L: PartReader, R: Wait>(
     rt: &R,
     file: &F,
@@ -52,7 +52,7 @@ pub(crate) fn read_to<F: SharedAt, L: PartReader, R: Wait>(
 {
     for _ in rt.forever() {
         let at = reader.end();
-        if at >= offset {
+        if at >= offset || reader.is_full() {
             return Ok(());
         }
         let room = buffer.len().min(offset - at);
@@ -127,7 +127,7 @@ fn take_there<F: SharedAt, K: Ruled, L: PartReader, R: Wait>(
     Ok(())
 }
 
-/// Lets a reader take parts in the order of the text, and read the bytes between them.
+/// Lets a reader take parts in the order of the text, and read the bytes between them, until it is full.
 pub(crate) fn take_parts<F: SharedAt, K: Ruled, L: PartReader, R: Wait>(
     rt: &R,
     file: &F,
@@ -144,6 +144,9 @@ pub(crate) fn take_parts<F: SharedAt, K: Ruled, L: PartReader, R: Wait>(
 {
     let mut parts = parts;
     for _ in rt.forever() {
+        if reader.is_full() {
+            return Ok(());
+        }
         let Some(part) = next_part(&mut parts) else {
             return Ok(());
         };

@@ -12,18 +12,18 @@ use jx_lex::Depth;
 use std::alloc::{AllocError, Global};
 use std::sync::Wait;
 
-/// How many pieces the worker that has the reader draws in a row, at most. It draws one at first, and then twice as many each
+/// The most chunks that the worker with the reader takes in a row. It takes one at first, and then twice as many each
 /// time, so that a short text is shared.
 const MOST: u64 = 16;
 
-/// A buffer for a piece.
+/// Returns a buffer for a chunk.
 pub(crate) fn buffer_for(alloc: Global, pieces: &Pieces) -> Result<Vec<u8>, AllocError> {
     let mut buffer = Vec::new(alloc);
     buffer.resize(pieces.bytes(1), 0)?;
     Ok(buffer)
 }
 
-/// Makes runs of pieces until one stands behind the end of the text.
+/// Makes partial results of chunks until one is after the end of the text.
 fn make_runs<F: SharedAt, K: Known, R: Wait>(
     rt: &R,
     alloc: Global,
@@ -79,8 +79,8 @@ fn runs_between<F: SharedAt, K: Known, R: Wait>(
     unreachable!()
 }
 
-/// Lets the reader follow what the others store until it has come to an offset, or to a fault of the text. While pieces before
-/// the offset are in other hands, it makes runs of further pieces, until one stands behind the end of the text.
+/// Lets the reader follow what the others store until it is at an offset, or at a fault of the text. While chunks before
+/// the offset are in other hands, it makes partial results of further chunks, until one is after the end of the text.
 fn lead_up_to<F: SharedAt, K: Known, R: Wait>(
     rt: &R,
     alloc: Global,
@@ -112,8 +112,8 @@ fn lead_up_to<F: SharedAt, K: Known, R: Wait>(
     unreachable!()
 }
 
-/// Reads on as the worker that has the reader: draws several pieces in a row, lets the reader come there, and reads them from
-/// where it stands.
+/// Reads on as the worker that has the reader: takes several chunks in a row, lets the reader follow up to them, and reads them
+/// from where it is.
 fn lead_on<F: SharedAt, K: Known, R: Wait>(
     rt: &R,
     alloc: Global,
@@ -154,13 +154,13 @@ fn lead_on<F: SharedAt, K: Known, R: Wait>(
     unreachable!()
 }
 
-/// What a worker begins with: the first one has the reader.
+/// The task with which a worker begins: the first one has the reader.
 #[derive(Drop)]
 pub(crate) struct Job<K: Known> {
     pub lead: Option<Lead<K>>,
 }
 
-/// Works until the text ends, a fault of it is met, or another worker stops, and returns the reader. Where memory is refused or
+/// Works until the text ends, a fault of it is met, or another worker stops, and returns the reader. When out of memory, or where
 /// a read fails, all workers stop: what they did not read is read when they have ended.
 pub(crate) fn work<F: SharedAt, K: Known, R: Wait>(
     rt: &R,

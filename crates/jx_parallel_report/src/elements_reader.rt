@@ -13,8 +13,8 @@ use jx_lex::Span;
 use jx_ndjson_report::{add_element, exit_past};
 use jx_parallel::{Judged, PartReader, PartRule};
 use jx_run::{
-    JudgedElement, Reader, Settings, elements_of_part, ended_there, ends_open_behind,
-    separated_part, sequences_are_read_part_by_part,
+    JudgedElement, Reader, Settings, elements_of_part, elements_of_two_parts, ended_there,
+    ends_open_behind, separated_part,
 };
 use std::alloc::{AllocError, Global};
 
@@ -54,7 +54,7 @@ impl ElementsReader {
     pub fn new(alloc: Global, rule: &PartRule) -> ElementsReader
         ensures { HasRead rule.now [] result }
     {
-        sequences_are_read_part_by_part();
+        elements_of_two_parts();
         ElementsReader {
             alloc,
             reader: Reader::new(alloc, &Settings::from(rule.depth), 0),
@@ -73,7 +73,7 @@ impl ElementsReader {
         ensures read { OnOk result ((rule : PartRule) (xs : List ℕ) → HasRead rule xs self.old → HasRead rule (xs ++ bytes.now) self.new) }
         ensures end { OnOk result (self.new.reader.start + self.new.reader.count ≡ self.old.reader.start + self.old.reader.count + length bytes.now) }
     {
-        sequences_are_read_part_by_part();
+        elements_of_two_parts();
         self.reader.feed(bytes)?;
         self.open_ended = ends_open_behind(self.open_ended, bytes);
         Ok(())
@@ -95,7 +95,7 @@ impl ElementsReader {
         ensures ended { OnOk result ((xs : List ℕ) → HasRead rule.now xs self.old → HasEnded rule.now xs self.new) }
         ensures reader { self.new.reader ≡ self.old.reader }
     {
-        sequences_are_read_part_by_part();
+        elements_of_two_parts();
         let span = Span {
             start: self.reader.start(),
             end: self.reader.end(),
@@ -120,7 +120,7 @@ impl ElementsReader {
         ensures taken { OnOk result ((xs ys : List ℕ) → HasRead rule.now xs self.old → length ys ≡ len → IsPart rule.now (length xs) ys part → HasRead rule.now (xs ++ ys) self.new) }
         ensures end { OnOk result (self.new.reader.start + self.new.reader.count ≡ self.old.reader.start + self.old.reader.count + len) }
     {
-        sequences_are_read_part_by_part();
+        elements_of_two_parts();
         self.end_element(rule)?;
         self.told.words.append(&mut part.words)?;
         let exit = exit_by(self.told.exit, part.exit);
@@ -190,12 +190,12 @@ impl PartReader for ElementsReader {
     }
 
     fn end(&self) -> usize {
-        sequences_are_read_part_by_part();
+        elements_of_two_parts();
         self.reader.end()
     }
 
     fn feed(&mut self, rule: &PartRule, bytes: &[u8]) -> Result<(), AllocError> {
-        sequences_are_read_part_by_part();
+        elements_of_two_parts();
         let Some(span) = separated_part(bytes) else {
             self.go_on(bytes)?;
             return Ok(());

@@ -1,7 +1,7 @@
 /// Why a report on bytes that are read at offsets gave no answer.
 #[derive(Debug, Drop)]
 pub enum ReportAtFault<E> {
-    /// A growth of memory was refused. Nothing was written.
+    /// An allocation failed. Nothing was written.
     Memory,
     /// A read failed, for this reason. Nothing was written.
     Read(E),

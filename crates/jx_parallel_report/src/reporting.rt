@@ -10,7 +10,7 @@ ghost use Rattle.jx_parallel_report.specs.ReportsAt.{FailsBy, IsShared, ReportsA
 use crate::elements_report::report_elements;
 use crate::report_at_fault::ReportAtFault;
 use crate::steps::step_of;
-use jx_answer::any_names_change_nothing;
+use jx_answer::verdict_without_a_rule_on_names;
 use jx_ends::{Exit, ReportFault, Sink};
 use jx_parallel::{CheckFault, SharedAt, check_at};
 use jx_run::{FrontMark, NameRule, Verdict};
@@ -73,7 +73,7 @@ fn report_verdict<F: SharedAt + Sync, W: Sink, R: Threads + Wait + Sync>(
     ensures unwritten { IfErr result (λ fault. fault ≢ ReportAtFault.Write → writer.new ≡ writer.old) }
     ensures beginning { IsErrOf result ReportAtFault.Write → ReportsAtInPart command.now (F.content file.now) (W.contents writer.old) (W.contents writer.new) }
 {
-    any_names_change_nothing();
+    verdict_without_a_rule_on_names();
     let step = step_of(command.piece);
     match check_at(rt, alloc, file, command.workers, step, &command.settings) {
         Ok(verdict) => show(alloc, writer, verdict, command.quiet),
@@ -85,9 +85,9 @@ fn report_verdict<F: SharedAt + Sync, W: Sink, R: Threads + Wait + Sync>(
 /// Reads bytes by the command's workers, each at offsets of its own, to their end or to a fault of the text, and then writes
 /// what `report` writes for them. A quiet command writes nothing, and its exit is the same.
 ///
-/// Each worker reads as many bytes at a time as a piece of the command has, at most 8 MiB, and 256 KiB where a piece has
+/// Each worker reads as many bytes at a time as a chunk of the command has, at most 8 MiB, and 256 KiB where a chunk has
 /// 65,536 bytes as by default. For the verdict on a text the calling thread reads the first four times as many alone, and
-/// starts no thread where the bytes end there. Behind a fault of the text the rest may stay unread. Of a sequence each worker
+/// starts no thread where the bytes end there. After a fault of the text the rest may stay unread. Of a sequence each worker
 /// judges the elements between the first and the last record separator that it read; all lines of the output are kept until the
 /// end. It waits for the workers.
 pub fn report_at<F: SharedAt + Sync, W: Sink, R: Threads + Wait + Sync>(

@@ -1,7 +1,7 @@
 // How many bytes a worker reads at a time.
 ghost use Rattle.std.specs.Prelude.{◌≤◌};
 
-/// How many bytes the pieces of a command have that asks for no size of its own.
+/// The size of a chunk of a command that asks for no size of its own.
 const UNASKED: usize = 64 * 1024;
 
 /// How many bytes a worker then reads at a time. So few stay in its processor's cache, and a call of the system costs little
@@ -11,7 +11,7 @@ const STEP: usize = 256 * 1024;
 /// How many it reads at a time at most, whatever the command asks for.
 const MOST: usize = 8 * 1024 * 1024;
 
-/// How many bytes a worker reads at a time, by the pieces of a command.
+/// How many bytes a worker reads at a time, by the chunk of a command.
 pub(crate) fn step_of(piece: usize) -> usize
     requires { 1 ≤ piece }
     ensures { 1 ≤ result }

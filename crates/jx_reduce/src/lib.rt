@@ -14,7 +14,7 @@ pub use forms::form_ref::FormRef;
 pub use forms::level::Level;
 pub use forms::parts::{FormParts, RestParts, RestRef, StructureParts, StructureRef};
 pub use forms::structure::Structure;
-pub use laws::{offsets_lie_in_spans, structures_lie_in_spans};
+pub use laws::{spans_of_offsets, spans_of_structures};
 pub use reducing::reduced::Reduced;
 pub use reducing::reducer::Reducer;
 pub use reducing::reductions::Reductions;

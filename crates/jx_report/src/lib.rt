@@ -17,6 +17,6 @@ mod row_words;
 mod sequence_reader;
 mod writing;
 
-pub use laws::outputs_are_one;
+pub use laws::unique_output;
 pub use pointer_answers::answers_to_pointers;
 pub use reporting::{report, report_in_batches};

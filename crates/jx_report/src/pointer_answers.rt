@@ -8,11 +8,11 @@ ghost use Rattle.jx_report.specs.inside.PointerReads.{any_names};
 ghost use Rattle.jx_report.specs.inside.IndexAnswers.{AreAnswersIn, answer_of};
 ghost use Rattle.jx_words.specs.inside.ReadPointers.{each_answer};
 
-use jx_answer::{Answer, TextAnswer, find_all, verdict_of_text, verdicts_by_settings_are_one};
+use jx_answer::{Answer, TextAnswer, find_all, unique_verdicts_by_settings, verdict_of_text};
 use jx_claim::Cutting;
 use jx_crew::{Crew, Gate};
 use jx_find::find_each_by;
-use jx_index::{Indexed, PointerFault, indexes_stand_behind_fronts, look_ups_end_at_rows};
+use jx_index::{Indexed, PointerFault, index_behind_a_front, rows_of_look_ups};
 use jx_run::{NameRule, Refusal, Settings, Verdict};
 use jx_words::{PointerAnswer, answers_in, read_pointers};
 use std::alloc::{AllocError, Global};
@@ -69,7 +69,7 @@ fn answers_in_one_pass(
     ensures { IfOk result (AreAnswersBy settings.now text.now (map string_bytes pointers.now)) }
 {
     // By the contract of this call the proof knows what row a pointer leads to.
-    look_ups_end_at_rows();
+    rows_of_look_ups();
     let read = read_pointers(alloc, pointers)?;
     match find_each_by(alloc, text, settings, &read.pointers)? {
         Err(refusal) => Ok(Err(refusal)),
@@ -111,7 +111,7 @@ fn many_pointers_answers<R: Threads + Sync, G: Gate + Sync>(
 ) -> Result<Result<Vec<PointerAnswer>, Refusal>, AllocError>
     ensures { IfOk result (AreAnswersBy settings.now text.now (map string_bytes pointers.now)) }
 {
-    indexes_stand_behind_fronts();
+    index_behind_a_front();
     match TextAnswer::read(crew.alloc, text, settings)? {
         TextAnswer::Refused(refusal) => Ok(Err(refusal)),
         TextAnswer::Accepted(index) => {
@@ -121,7 +121,7 @@ fn many_pointers_answers<R: Threads + Sync, G: Gate + Sync>(
     }
 }
 
-/// The same settings, but objects may have any names.
+/// These settings, but objects may have any names.
 pub(crate) fn with_any_names(settings: &Settings) -> Settings
     ensures { result ≡ any_names settings.now }
 {
@@ -142,7 +142,7 @@ fn answers_in_accepted(
     requires { IsVerdictBy settings.now text.now Accepted }
     ensures { IfOk result (AreAnswersBy settings.now text.now (map string_bytes pointers.now)) }
 {
-    verdicts_by_settings_are_one();
+    unique_verdicts_by_settings();
     answers_in_one_pass(alloc, &with_any_names(settings), pointers, text)
 }
 

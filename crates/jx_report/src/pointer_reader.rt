@@ -12,9 +12,9 @@ use crate::name_check::NameCheck;
 use crate::pointer_answers::{MANY, with_any_names};
 use crate::pointer_reply::reply_of_answers;
 use crate::reply::Reply;
-use jx_answer::verdicts_by_settings_are_one;
+use jx_answer::unique_verdicts_by_settings;
 use jx_find::Finder;
-use jx_index::{PointerFault, look_ups_end_at_rows};
+use jx_index::{PointerFault, rows_of_look_ups};
 use jx_run::{Refusal, Settings, Verdict};
 use jx_task::{Command, Task};
 use jx_words::{PointerAnswer, ReadPointers, answers_in, read_pointers};
@@ -45,7 +45,7 @@ fn answers_of(
     ensures { IfOk result (λ answers. (settings : Settings) (spelt pointers : List (List ℕ)) (text : List ℕ) → AreReadPointers spelt pointers unread.now
         → fed.HasFed settings pointers text finder.entry → AreAnswersBy settings text spelt answers) }
 {
-    look_ups_end_at_rows();
+    rows_of_look_ups();
     match finder.finish()? {
         Err(refusal) => Ok(Err(refusal)),
         Ok(found) => {
@@ -108,7 +108,7 @@ impl<'p> PointerReader<'p> {
         ensures { IfOk result (λ reply. (settings : Settings) (spelt : List (List ℕ)) (text : List ℕ) → AreLookedUp settings spelt text self.entry
             → TextOutput (AnswersPointers spelt settings text) settings text (reply_output reply) (reply_exit reply)) }
     {
-        verdicts_by_settings_are_one();
+        unique_verdicts_by_settings();
         let PointerReader {
             alloc,
             finder,

@@ -12,7 +12,7 @@ ghost use Rattle.jx_report.specs.inside.Replies.{reply_exit, reply_output};
 use crate::pointer_reader::PointerReader;
 use crate::reply::Reply;
 use crate::sequence_reader::SequenceReader;
-use jx_answer::{Balance, any_names_change_nothing, read_batch, read_pieces};
+use jx_answer::{Balance, read_batch, read_pieces, verdict_without_a_rule_on_names};
 use jx_claim::Cutting;
 use jx_crew::{Crew, Gate};
 use jx_ends::ReportFault;
@@ -118,7 +118,7 @@ impl<'p> Reading<'p> {
         ensures unread { IfErr result (λ fault. fault ≢ ReportFault.Read) }
         ensures unwritten { IfErr result (λ fault. fault ≢ ReportFault.Write) }
     {
-        any_names_change_nothing();
+        verdict_without_a_rule_on_names();
         if Cutting::every(self.end(), command.piece).is_err() {
             return Err(ReportFault::Pieces);
         }

@@ -13,7 +13,7 @@ use std::thread::Threads;
 /// How many bytes of an input are read at a time, at most.
 const BATCH: usize = 8 * 1024 * 1024;
 
-/// The same for one worker and short chunks. What is read is looked at before it leaves the processor's cache.
+/// How many bytes one worker with short chunks reads at a time. They are looked at before they leave the processor's cache.
 const STEP: usize = 256 * 1024;
 
 /// How many bytes of an output are written at a time, at most.

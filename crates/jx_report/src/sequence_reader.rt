@@ -14,9 +14,8 @@ use jx_answer::{Balance, is_short, judge_batch, named_element, named_elements, r
 use jx_crew::{Crew, Gate, Workers};
 use jx_lex::Span;
 use jx_run::{
-    Front, FrontMark, JudgedElement, NameRule, Reader, Settings, ended_there, ends_open_behind,
-    front, fronts_decide_where_texts_begin, is_mark_alone, separated_part,
-    sequences_are_read_part_by_part,
+    Front, FrontMark, JudgedElement, NameRule, Reader, Settings, beginning_of_a_text_by_its_front,
+    elements_of_two_parts, ended_there, ends_open_behind, front, is_mark_alone, separated_part,
 };
 use jx_task::Command;
 use std::alloc::{AllocError, Global};
@@ -78,7 +77,7 @@ impl SequenceReader {
     pub fn new(alloc: Global, command: &Command) -> SequenceReader
         ensures { IsSequenceRead command.now.settings [] result }
     {
-        sequences_are_read_part_by_part();
+        elements_of_two_parts();
         SequenceReader {
             settings: command.settings,
             first: Vec::new(alloc),
@@ -95,7 +94,7 @@ impl SequenceReader {
         ensures end { result ≡ self.now.reader.start + self.now.reader.count }
         ensures length { (settings : Settings) (text : List ℕ) → IsSequenceRead settings text self.now → result ≡ length text }
     {
-        sequences_are_read_part_by_part();
+        elements_of_two_parts();
         self.reader.end()
     }
 
@@ -136,7 +135,7 @@ impl SequenceReader {
         ensures end { OnOk result (self.new.reader.start + self.new.reader.count ≡ self.old.reader.start + self.old.reader.count + length bytes.now) }
         ensures first { self.new.first ≡ self.old.first }
     {
-        sequences_are_read_part_by_part();
+        elements_of_two_parts();
         self.keep_last(bytes)?;
         read_batch(crew, &mut self.reader, &mut self.balance, bytes, piece)?;
         self.open_ended = ends_open_behind(self.open_ended, bytes);
@@ -162,7 +161,7 @@ impl SequenceReader {
         ensures judged { OnOk result ((settings : Settings) (text : List ℕ) → AreReadBy settings text self.old → AreEndedBy settings text self.new) }
         ensures rest { self.new ≡ record self.old { judged = self.new.judged } }
     {
-        sequences_are_read_part_by_part();
+        elements_of_two_parts();
         let span = Span {
             start: self.reader.start(),
             end: self.reader.end(),
@@ -193,7 +192,7 @@ impl SequenceReader {
         ensures end { OnOk result (self.new.reader.start + self.new.reader.count ≡ self.old.reader.start + self.old.reader.count + length bytes.now) }
         ensures first { self.new.first ≡ self.old.first }
     {
-        sequences_are_read_part_by_part();
+        elements_of_two_parts();
         self.end_element()?;
         let before = self.reader.end();
         let depth = self.settings.depth;
@@ -232,7 +231,7 @@ impl SequenceReader {
     pub fn into_elements(mut self) -> Result<Vec<JudgedElement>, AllocError>
         ensures { IfOk result (λ elements. (settings : Settings) (text : List ℕ) → IsSequenceRead settings text self → AreJudgedBy settings text elements.items) }
     {
-        fronts_decide_where_texts_begin();
+        beginning_of_a_text_by_its_front();
         self.end_element()?;
         match self.settings.mark {
             FrontMark::Refused => Ok(self.judged),

@@ -55,6 +55,6 @@ pub data JudgedBy (settings : Settings) (start : ℕ) (bytes : List ℕ) : Verdi
   -- with the next byte they begin a deeper text
   too_deep : {k e : ℕ} → IsNoTextBy settings start bytes → IsLongestBeginningBy settings bytes k → k < length bytes
       → BeginsBy (at_depth settings e) (take (suc k) bytes) → JudgedBy settings start bytes (Refused (TooDeep (start + k)))
-  -- with the next byte, no text begins with them
+  -- with the next byte, they do not begin a text
   stopped : {k : ℕ} → IsNoTextBy settings start bytes → IsLongestBeginningBy settings bytes k → k < length bytes
       → ((e : ℕ) → BeginsBy (at_depth settings e) (take (suc k) bytes) → ⊥) → JudgedBy settings start bytes (Refused (Stopped (start + k)))

@@ -26,6 +26,6 @@ pub data Judged (start : ℕ) (bytes : List ℕ) (limit : ℕ) : Verdict → Typ
   -- with the next byte they begin a deeper text
   too_deep : {k e : ℕ} → IsNoText start bytes limit → IsLongestBeginning bytes limit k → k < length bytes
       → Begins (take (suc k) bytes) e → Judged start bytes limit (Refused (TooDeep (start + k)))
-  -- with the next byte, no text begins with them
+  -- with the next byte, they do not begin a text
   stopped : {k : ℕ} → IsNoText start bytes limit → IsLongestBeginning bytes limit k → k < length bytes
       → ((e : ℕ) → Begins (take (suc k) bytes) e → ⊥) → Judged start bytes limit (Refused (Stopped (start + k)))

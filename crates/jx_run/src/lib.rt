@@ -9,10 +9,10 @@ mod texts;
 
 pub use jx_summary::Summary;
 pub use laws::{
-    a_refused_mark_changes_nothing, beginnings_are_completed_by_bytes,
-    fronts_decide_where_texts_begin, reader_is_grammar, readings_go_on,
-    sequences_are_read_part_by_part, text_by_settings_has_one_tree, text_has_one_tree,
-    values_fill_their_spans, verdict_by_settings_is_one, verdict_is_one,
+    beginning_of_a_text_by_its_front, completion_of_a_beginning, elements_of_two_parts,
+    reader_and_grammar, readings_after_a_fault, spans_of_values, unique_tree,
+    unique_tree_by_settings, unique_verdict, unique_verdict_by_settings,
+    verdicts_with_a_refused_mark,
 };
 pub use readers::one_pass::{NoPause, OnePass, Pace, read_into};
 pub use readers::progress::{

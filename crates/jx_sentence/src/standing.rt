@@ -12,7 +12,7 @@ ghost use Rattle.jx_sentence.specs.declared.standing.Standing.{Standing};
 use crate::choice::{Choices, choices_for};
 use jx_lex::{Depth, LexExit, LexState, Mark, TokenSink, scan};
 use jx_reduce::{Expect, Holder, KnownStack};
-use jx_run::reader_is_grammar;
+use jx_run::reader_and_grammar;
 use std::alloc::{AllocError, Global};
 
 /// Where a reading stands after bytes that begin a text.
@@ -71,8 +71,8 @@ pub fn innermost(mut holders: Vec<Holder>) -> Holder
 }
 
 /// Where a reading stands after the bytes of a text from one offset up to another, from the start of a text on; none
-/// just where it meets a fault among them. The last token is the one that the last token start begins, and where there
-/// is none, it is at the first offset. Fails only when out of memory.
+/// just where it meets a fault among them. The last token is the one that the last token start begins; without a token start
+/// it is at the first offset. Fails only when out of memory.
 pub fn standing_behind(
     alloc: Global,
     text: &[u8],
@@ -113,6 +113,6 @@ pub fn choices_at(standing: &Standing) -> Choices
     ensures { (limit from : ℕ) (bytes : List ℕ) (byte : ℕ) → StandsBehind limit from bytes standing.now
         → (are_named (choices_of result) (class_at byte) ≡ true) ↔ BeginsAtSomeDepth (bytes ++ byte ∷ []) }
 {
-    reader_is_grammar();
+    reader_and_grammar();
     choices_for(standing.state, standing.expect, standing.top)
 }

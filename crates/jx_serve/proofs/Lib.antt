@@ -5,5 +5,10 @@ pub mod Outlines
 pub mod ValuesAt
 pub mod Grown
 pub mod Marked
+pub mod Nearby
 pub mod LineTables
 pub mod BadLinesRead
+pub mod Sounds
+pub mod Uniques
+pub mod Opens
+pub mod Texts

@@ -1,4 +1,4 @@
--- How the lines of a document that are no texts are shown.
+-- The diagnostics of the lines of a document that are not valid JSON.
 use Rattle.std.specs.Prelude.{◌≡◌, ◌≤◌, ◌<◌, ◌+◌, ◌-◌, ◌&&◌, ◌||◌, ℕ, List, [], ◌∷◌, Bool, false, true, if◌then◌else◌, length, take}
 use Rattle.std.specs.List.{AllZip}
 use Rattle.jx_edit.specs.Positions.{position_at}
@@ -50,7 +50,7 @@ IsShownBy e bytes span on_line.Blank start end = IsWhole e bytes span start end
 
 -- ---- which
 
--- a mark tells of this line, and stands there
+-- the diagnostic of this line, at its place
 pub record IsMarkOf (e : Encoding) (bytes : List ℕ) (line : JudgedLine) (mark : LineMark) : Type 0 where
   pub tells : mark.line ≡ line
   pub shown : IsShownBy e bytes line.span line.verdict mark.start mark.end
@@ -64,7 +64,7 @@ is_blank (on_line.Refused refusal) = false
 is_blank on_line.MayBeCut = false
 is_blank on_line.Blank = true
 
--- without blank lines behind the first one; or without all, where one stands before them
+-- without lines of white space alone after the first such line; or without all of them, where one came before
 abbrev pub marked : Bool → List JudgedLine → List JudgedLine
 marked seen [] = []
 marked seen (line ∷ lines) =
@@ -74,7 +74,7 @@ marked seen (line ∷ lines) =
 abbrev pub most_marks : ℕ
 most_marks = 1000
 
--- one for each of the first lines that are no texts, in order, of blank ones for the first alone; and how many more are no texts
+-- one for each of the first lines that are not valid JSON, in order, of those of white space alone for the first only; and how many more there are
 pub record AreLineMarks (e : Encoding) (settings : Settings) (bytes : List ℕ) (marks : LineMarks) : Type 0 where
   pub answers : List JudgedLine
   pub are_answers : AreAnswers settings bytes answers

@@ -8,7 +8,7 @@ use Rattle.jx_run.specs.declared.texts.verdict.Verdict.{Verdict}
 use Rattle.jx_run.specs.declared.texts.verdict.Verdict.TheVariants.{Accepted, Refused}
 use Rattle.jx_serve.specs.declared.mark.Mark.{Mark}
 
--- the verdict that a mark, or that none, tells
+-- the verdict that a diagnostic reports, or none
 abbrev pub told : Option Mark → Verdict
 told None = Accepted
 told (Some mark) = Refused mark.refusal
@@ -20,7 +20,7 @@ shown_at bytes Truncated = length bytes - 1
 shown_at bytes (TooDeep at) = at
 shown_at bytes (RepeatedName at) = at
 
--- a mark has the positions of both ends of some bytes, at most those of one character, with the byte at the offset among them
+-- a diagnostic has the positions of both ends of some bytes, at most those of one character, with the byte at the offset among them
 pub record IsPlaced (e : Encoding) (bytes : List ℕ) (mark : Mark) : Type 0 where
   pub from : ℕ
   pub to : ℕ

@@ -33,7 +33,7 @@ around offset (Some name) value = held_span offset (record { start = name.start;
 abbrev pub spans_at : ℕ → Row → List Span
 spans_at offset row = around offset row.name row.span
 
--- of all rows, in order: what stands in another thing comes behind it. None from the fault on
+-- of all rows, in order: what stands in another thing comes after it. None from the fault on
 abbrev pub chain_before : ℕ → ℕ → List Row → List Span
 chain_before kept offset table = if nat_le kept offset then [] else flat_map (spans_at offset) table
 
@@ -43,7 +43,7 @@ chain_before kept offset table = if nat_le kept offset then [] else flat_map (sp
 abbrev pub extent_of : Encoding → List ℕ → ℕ → Span → Extent
 extent_of e bytes kept span = record { start = position_at e bytes span.start; end = position_at e bytes (min kept span.end) }
 
--- around a place at most so many are told
+-- around a place at most so many are listed
 abbrev pub most_levels : ℕ
 most_levels = 200
 

@@ -1,4 +1,4 @@
--- What a server knows of its client, and what it may tell it.
+-- What a server knows of its client, and what it may send to it.
 use Rattle.std.specs.Prelude.{◌≡◌, ◌⊎◌, ℕ, List, Bool, Option, None, Some, false, true, fold, map, position, slice_get, slice_set, MatchOption, Vec}
 use Rattle.std.specs.Global.{Global}
 use Rattle.std.specs.Str.{bytes_eq}
@@ -23,7 +23,7 @@ use Rattle.jx_serve.specs.declared.line_mark.LineMarks.{LineMarks}
 use Rattle.jx_serve.specs.declared.reply.Reply.TheVariants.{Nothing, Initialized, Null, Hovered, Outlined, Folded, Selected, Refused, Published, PublishedLines, Closed, Logged}
 use Rattle.jx_serve.specs.declared.server.Phase.{Phase}
 
--- a document that is open: what its name stands for, how that is spelt in messages, whether it is one text or lines, and its bytes
+-- a document that is open: what its name stands for, how that is written in messages, whether it is one text or lines, and its bytes
 pub record OpenValue : Type 0 where
   pub name : List ℕ
   pub spelt : List ℕ
@@ -44,7 +44,7 @@ number_named name documents = position (λ (d : OpenValue). bytes_eq d.name name
 
 -- ---- what changes make
 
--- a document behind changes, made in order; where memory was refused its bytes are lost
+-- a document after changes, made in order; when out of memory its bytes are lost
 pub record IsFollowed (e : Encoding) (changes : List Change) (before after : OpenValue) : Type 0 where
   pub same_name : after.name ≡ before.name
   pub same_spelling : after.spelt ≡ before.spelt
@@ -73,14 +73,14 @@ all_lost server = record server { documents = map lost_open server.documents }
 
 -- ---- what is published
 
--- the document is one text, and has this verdict on exactly its bytes, by its settings; its name is spelt so, and its bytes are not lost
+-- the document is one text, and has this verdict on exactly its bytes, by its settings; its name is written so, and its bytes are not lost
 pub record IsVerdictOn (document : OpenValue) (uri : List ℕ) (verdict : Verdict) : Type 0 where
   pub is_spelt : document.spelt ≡ uri
   pub is_known : document.held.lost ≡ false
   pub is_text : document.content ≡ Text
   pub is_verdict : IsVerdictBy document.held.settings document.held.bytes verdict
 
--- the document is JSON Lines, and these marks tell of its lines that are no texts, by its settings; its name is spelt so, and its
+-- the document is JSON Lines, and these are the diagnostics of its lines, by its settings; its name is written so, and its
 -- bytes are not lost
 pub record AreLinesOn (e : Encoding) (document : OpenValue) (uri : List ℕ) (marks : LineMarks) : Type 0 where
   pub is_spelt : document.spelt ≡ uri
@@ -148,7 +148,7 @@ IsNull (Null id) = Unit {0}
 IsNull _ = ⊥
 
 -- the value at a place of a document, or null where it is JSON Lines, its bytes are lost, or no value is there before the fault, or that
--- memory was refused
+-- it was out of memory
 abbrev pub IsHoverIn : Encoding → Place → Reply → OpenValue → Type 0
 IsHoverIn e place (Hovered id hover) document =
     (document.content ≡ Text) × (document.held.lost ≡ false) × IsHoverAt e document.held.settings document.held.bytes (offset_at e document.held.bytes (place_of place)) hover
@@ -174,7 +174,7 @@ AreFoldsIn e (Refused id code refusal) document = code ≡ RequestFailed
 AreFoldsIn e _ document = ⊥
 
 -- what stands around places of a document, or null where it is JSON Lines, or its bytes are lost or have no value before the fault, or that
--- memory was refused
+-- it was out of memory
 abbrev pub AreAroundIn : Encoding → List Place → Reply → OpenValue → Type 0
 AreAroundIn e places (Selected id selections) document =
     (document.content ≡ Text) × (document.held.lost ≡ false) × AreSelections e document.held.settings document.held.bytes places selections.items

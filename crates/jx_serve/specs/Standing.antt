@@ -7,7 +7,7 @@ use Rattle.jx_run.specs.declared.texts.settings.Settings.{Settings}
 use Rattle.jx_sentence.specs.Standing.{StandsBehind}
 use Rattle.jx_sentence.specs.declared.standing.Standing.{Standing}
 
--- it came to this with the bytes behind what stands in front, up to an offset
+-- the reading of the bytes after an ignored byte order mark is here at an offset
 pub record StandsIn (settings : Settings) (bytes : List ℕ) (at : ℕ) (s : Standing) : Type 0 where
   pub from : ℕ
   pub begins : front_of settings.mark bytes ≡ Skip from

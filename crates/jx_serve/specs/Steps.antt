@@ -51,7 +51,7 @@ settings_asked offer = record {
 abbrev pub encoding_agreed : Offer → Encoding
 encoding_agreed offer = if offer.utf8 then Utf8 else Utf16
 
--- a server that no message has come to
+-- a server before its first message
 abbrev pub start : ServerValue
 start = record { phase = New; encoding = Utf16; settings = record { depth = 512; mark = mark.Refused; names = names.Any }; nested = false; documents = [] }
 
@@ -72,8 +72,8 @@ without name documents = without_at (number_named name documents) documents
 abbrev pub sent : ServerValue → Uri → Content → Change → OpenValue
 sent server uri content text = record { name = uri.name.items; spelt = uri.spelt.items; content = content; held = changed server.encoding (held server.settings []) text }
 
--- what is told of a document, with the version of the message: its verdict and a mark that stands where it is refused, or a mark for each
--- of its lines that is no text; or that its bytes are lost, or that memory was refused
+-- what is published of a document, with the version of the message: its verdict and the diagnostic of its refusal, or one for each
+-- of its lines that is not valid JSON; or that its bytes are lost, or that it was out of memory
 abbrev pub IsToldOf : Encoding → Option (Vec ℕ Global) → OpenValue → Reply → Type 0
 IsToldOf e version document (Published uri told_version shown) =
     IsVerdictOn document uri.items (told shown) × (told_version ≡ version) × IfSome shown (IsPlaced e document.held.bytes)
@@ -82,7 +82,7 @@ IsToldOf e version document (Logged Lost) = document.held.lost ≡ true
 IsToldOf e version document (Logged Memory) = Unit {0}
 IsToldOf e version document _ = ⊥
 
--- an open document of the same name goes, and the new one stands behind the others; where memory is refused, there is none
+-- an open document of the same name goes, and the new one is added after the others; out of memory, there is none
 abbrev pub IsOpened : Versioned → Content → Change → ServerValue → ServerValue → Reply → Type 0
 IsOpened document content text before after reply =
     let rest = without document.uri.name.items before.documents in
@@ -90,7 +90,7 @@ IsOpened document content text before after reply =
     ((after ≡ with_documents (rest ++ new ∷ []) before) × IsToldOf before.encoding document.version new reply)
     ⊎ ((after ≡ with_documents rest before) × (reply ≡ Logged Memory))
 
--- the document of a number has the changes made, and is told of
+-- the document of a number has the changes made, and this is published of it
 pub record IsChangedAt (number : ℕ) (version : Option (Vec ℕ Global)) (changes : List Change) (before after : ServerValue) (reply : Reply) : Type 0 where
   pub made : AreMadeAt before.encoding number changes before.documents after.documents
   pub alone : after ≡ with_documents after.documents before
@@ -139,7 +139,7 @@ AnswersIn (Ended clean) id asked before after reply = Refuses InvalidRequest id 
 abbrev pub Passes : ServerValue → ServerValue → Reply → Type 0
 Passes before after reply = (after ≡ before) × (reply ≡ Nothing)
 
--- the client leaves, as it should behind `shutdown` alone
+-- the client leaves, as it should after `shutdown` alone
 abbrev pub Leaves : Bool → ServerValue → ServerValue → Reply → Type 0
 Leaves clean before after reply = (after ≡ record before { phase = Ended clean }) × (reply ≡ Nothing)
 

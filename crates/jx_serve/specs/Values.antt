@@ -50,7 +50,7 @@ pub record IsInnermost (table : List Row) (offset number : ℕ) : Type 0 where
 abbrev pub IsInNone : List Row → ℕ → Type 0
 IsInNone table offset = (k : ℕ) → holds_at table offset k ≡ false
 
--- of a text, the innermost value that holds an offset, or whose member does; the pointer leads to it, if one is told
+-- of a text, the innermost value that holds an offset, or whose member does; its pointer, if there is one, leads to it
 pub record IsValueAt (settings : Settings) (bytes : List ℕ) (offset : ℕ) (value : ValueAt) : Type 0 where
   pub tree : Tree
   pub is_text : IsDocumentBy settings 0 bytes tree
@@ -59,7 +59,7 @@ pub record IsValueAt (settings : Settings) (bytes : List ℕ) (offset : ℕ) (va
   pub is_row : slice_get (rows tree) number ≡ Some value.row
   pub led : IfSome value.pointer (λ pointer. leads bytes tree (tokens pointer.items) ≡ Ok number)
 
--- no text, or a text in which no value holds an offset
+-- it is not valid JSON, or a text in which no value holds an offset
 pub data HasNoValueAt (settings : Settings) (bytes : List ℕ) (offset : ℕ) : Type 0 where
   no_text : {refusal : Refusal} → IsVerdictBy settings bytes (Refused refusal) → HasNoValueAt settings bytes offset
   in_none : {tree : Tree} → IsDocumentBy settings 0 bytes tree → IsInNone (rows tree) offset → HasNoValueAt settings bytes offset
@@ -74,7 +74,7 @@ IsFoundAt settings bytes offset (Some value) = IsValueAt settings bytes offset v
 abbrev pub any_names : Settings → Settings
 any_names settings = record settings { names = Any }
 
--- where a value at an offset is shown from: from its name on, where the offset stands before it
+-- the offset at which a value is shown that contains an offset: the start of its name where the offset is before the value
 abbrev pub shown_from : ℕ → Row → ℕ
 shown_from offset row = if nat_lt offset row.span.start then outer_start row else row.span.start
 
@@ -89,7 +89,7 @@ pub record IsHoverAt (e : Encoding) (settings : Settings) (bytes : List ℕ) (of
   pub start_is : hover.start ≡ position_at e bytes (shown_from offset hover.value.row)
   pub end_is : hover.end ≡ position_at e bytes (min hover.kept hover.value.row.span.end)
 
--- no value begins before the fault, or the offset does not stand before it, or in no value, or in a member whose value is due there
+-- no value begins before the fault, or the offset is not before it, or in no value, or in a member whose value is missing there
 pub data HasNoHover (settings : Settings) (bytes : List ℕ) (offset : ℕ) : Type 0 where
   in_mark : IsCutInMark (any_names settings) bytes → HasNoHover settings bytes offset
   behind : {text : List ℕ} {kept : ℕ} → IsCompleted (any_names settings) bytes text kept → kept ≤ offset → HasNoHover settings bytes offset
@@ -131,7 +131,7 @@ rows_before kept table = before_at (position (λ (row : Row). nat_le kept row.sp
 abbrev pub most_symbols : ℕ
 most_symbols = 10000
 
--- the first values that begin before the fault, in the order of their starts, each as far as its bytes stand before it
+-- the first values that begin before the fault, in the order of their starts, each with its bytes before the fault
 pub record IsOutline (e : Encoding) (settings : Settings) (bytes : List ℕ) (outline : Outline) : Type 0 where
   pub kept : ℕ
   pub is_completed : IsCompleted (any_names settings) bytes outline.text.items kept

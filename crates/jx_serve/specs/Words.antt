@@ -1,5 +1,5 @@
--- How replies are spelt as messages (JSON-RPC 2.0; Language Server Protocol 3.17, "PublishDiagnostics Notification" and "LogMessage
--- Notification"). Ids, versions and the names of documents are spelt as the client spelt them.
+-- How replies are written as messages (JSON-RPC 2.0; Language Server Protocol 3.17, "PublishDiagnostics Notification" and "LogMessage
+-- Notification"). Ids, versions and the names of documents are written as the client wrote them.
 use Rattle.std.specs.Prelude.{◌≡◌, ℕ, ◌==◌, List, [], ◌∷◌, ◌++◌, Bool, false, true, Option, None, Some, Vec, codes, decimal, if◌then◌else◌}
 use Rattle.std.specs.Global.{Global}
 use Rattle.std.specs.List.{concat, flat_map}
@@ -97,14 +97,14 @@ ends start end = codes "{\"start\":" ++ position start ++ codes ",\"end\":" ++ p
 abbrev pub range : Position → Position → List ℕ
 range start end = codes "\"range\":" ++ ends start end
 
--- behind the sentence of a mark
+-- after the sentence of a diagnostic
 abbrev pub words_of_place : Refusal → List ℕ
 words_of_place (Stopped at) = codes " (byte " ++ decimal at ++ codes ")"
 words_of_place Truncated = []
 words_of_place (TooDeep at) = codes " (byte " ++ decimal at ++ codes ")"
 words_of_place (RepeatedName at) = codes " (byte " ++ decimal at ++ codes ")"
 
--- a range, the word for what is wrong there, its sentence, and the place that stands behind it
+-- a range, the word for what is wrong there, its sentence, and the place that follows it
 abbrev pub told_at : Position → Position → List ℕ → List ℕ → List ℕ → List ℕ
 told_at start end word sentence place =
     codes "{" ++ range start end ++ concat (codes ",\"severity\":1,\"code\":\"" ∷ word ∷ codes "\",\"source\":\"jx\",\"message\":\"" ∷ [])

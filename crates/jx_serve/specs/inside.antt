@@ -1,3 +1,4 @@
 pub mod BadLines
 pub mod LineTables
 pub mod Names
+pub mod Sound

@@ -43,7 +43,7 @@ fn add_line(bad: &mut Vec<JudgedLine>, line: Option<JudgedLine>) -> Result<(), A
     }
 }
 
-/// Adds lines, behind so many others, which have so many bytes.
+/// Adds lines, after so many others, which have so many bytes.
 fn add_behind(
     bad: &mut Vec<JudgedLine>,
     more: &[JudgedLine],
@@ -146,7 +146,7 @@ impl BadLines {
     }
 }
 
-/// The reader behind the blocks with which a document begins.
+/// The reader after the blocks with which a document begins.
 fn read_blocks(
     alloc: Global,
     document: &Document,

@@ -1,8 +1,8 @@
 // Lines of a document that can be folded, in messages.
 use crate::symbols::{Outline, Symbol};
-use crate::value_words::{add_all, begin_list};
+use crate::value_words::{add_number, begin_list};
 use jx_lex::Kind;
-use std::alloc::{AllocError, Global};
+use std::alloc::AllocError;
 
 /// The first line of a container and the last one before its closing bracket, where these are two.
 fn lines_of(symbol: &Symbol) -> Option<(usize, usize)> {
@@ -18,9 +18,8 @@ fn lines_of(symbol: &Symbol) -> Option<(usize, usize)> {
     }
 }
 
-/// Adds lines as a `FoldingRange`, behind others or as the first.
+/// Adds lines as a `FoldingRange`, after others or as the first.
 fn add_fold(
-    alloc: Global,
     out: &mut Vec<u8>,
     is_first: bool,
     first: usize,
@@ -29,23 +28,15 @@ fn add_fold(
     if !is_first {
         out.extend_from_slice(b",")?;
     }
-    let first = format!(in alloc; "{first}")?;
-    let last = format!(in alloc; "{last}")?;
-    add_all(
-        out,
-        &[
-            b"{\"startLine\":",
-            first.as_bytes(),
-            b",\"endLine\":",
-            last.as_bytes(),
-            b"}",
-        ],
-    )
+    out.extend_from_slice(b"{\"startLine\":")?;
+    add_number(out, first)?;
+    out.extend_from_slice(b",\"endLine\":")?;
+    add_number(out, last)?;
+    out.extend_from_slice(b"}")
 }
 
-/// Adds the answer that tells which lines can be folded. Of containers that begin in one line the outermost is told.
+/// Adds the answer that lists which lines can be folded. Of containers that begin in one line only the outermost is listed.
 pub(crate) fn add_folded(
-    alloc: Global,
     out: &mut Vec<u8>,
     id: &[u8],
     outline: &Outline,
@@ -57,7 +48,7 @@ pub(crate) fn add_folded(
             continue;
         };
         if told != Some(first) {
-            add_fold(alloc, out, told.is_none(), first, last)?;
+            add_fold(out, told.is_none(), first, last)?;
             told = Some(first);
         }
     }

@@ -20,7 +20,7 @@ use crate::symbols::{Outline, symbols_of};
 use crate::under_cursor::{outer_start, value_at};
 use jx_complete::{Completed, complete};
 use jx_edit::{Document, DocumentFault, Encoding, Position};
-use jx_index::{Row, names_are_refused_by_rows, read_rows, verdict_with_unique_names};
+use jx_index::{Row, read_rows, repeated_name_by_rows, verdict_with_unique_names};
 use jx_run::{NameRule, NoPause, Settings, Verdict};
 use jx_wire::{Change, Place};
 use std::alloc::{AllocError, Global};
@@ -50,7 +50,7 @@ impl Model for Held {
     ghost invariant = { λ h. IsHeld h.settings h.document.settings × IsTable h.settings.depth h.document.bytes h.lines };
 }
 
-/// Where a value at an offset is shown from: from its name on, where the offset stands before it.
+/// The offset at which a value is shown that contains an offset: the start of its name where the offset is before the value.
 fn shown_from(row: &Row, offset: usize) -> usize
     ensures { result ≡ shown_from offset row.now }
 {
@@ -130,7 +130,7 @@ impl Held {
         self.lost = true;
     }
 
-    /// Makes a change. Where memory is refused, the bytes are lost.
+    /// Makes a change. When out of memory, the bytes are lost.
     pub fn change(&mut self, change: &Change, encoding: Encoding) -> Result<(), AllocError>
         ensures ok { OnOk result (self.new ≡ changed encoding self.old change.now) }
         ensures err { OnErr result (self.new ≡ lose self.old) }
@@ -199,7 +199,7 @@ impl Held {
         }
     }
 
-    /// Makes changes, each to what the one before it left. Where memory is refused, the bytes are lost.
+    /// Makes changes, each to what the one before it left. When out of memory, the bytes are lost.
     pub fn change_all(&mut self, changes: &[Change], encoding: Encoding) -> Result<(), AllocError>
         ensures ok { OnOk result (self.new ≡ fold (changed encoding) self.old changes.now) }
         ensures err { OnErr result (self.new.lost ≡ true) }
@@ -289,14 +289,14 @@ impl Held {
             // What is completed is a text.
             Err(_) => unreachable!(),
             Ok(rows) => {
-                let symbols = symbols_of(self.alloc, &self.document, &rows, kept, encoding)?;
                 let text = completed.text;
+                let symbols = symbols_of(self.alloc, &self.document, &text, &rows, kept, encoding)?;
                 Ok(Outline { text, symbols })
             }
         }
     }
 
-    /// What stands around each of some places before the fault, with its positions (RFC 8259), whatever names objects have; none
+    /// The ranges around each of some places before the fault, with their positions (RFC 8259), whatever names objects have; none
     /// where the bytes are lost, or begin no more than a byte order mark before the fault. A copy of all bytes is read.
     pub fn selections(
         &self,
@@ -316,7 +316,7 @@ impl Held {
         Ok(Some(selections))
     }
 
-    /// What stands around places of a completed text before the fault.
+    /// The ranges around places of a completed text before the fault.
     fn selections_in(
         &self,
         completed: &Completed,
@@ -346,7 +346,7 @@ impl Held {
         }
     }
 
-    /// What stands in the place of its bytes: the text that they are, or what stands before the fault, completed.
+    /// The text that is read in place of the bytes: the bytes where they are a text, or those before the fault, completed.
     fn completed(&self) -> Result<Option<Completed>, AllocError>
         ensures some { IfOk result (λ c. IfSome c (λ c. IsCompleted (any_names self.now.settings) self.now.bytes c.text.items c.kept)) }
         ensures none { IfOk result (λ c. c ≡ None → IsCutInMark (any_names self.now.settings) self.now.bytes) }
@@ -373,7 +373,7 @@ impl Held {
         ensures lost { IfOk result (λ verdict. is_some verdict ≡ not self.old.lost) }
         ensures verdict { IfOk result (λ verdict. IfSome verdict (IsVerdictBy self.old.settings self.old.bytes)) }
     {
-        names_are_refused_by_rows();
+        repeated_name_by_rows();
         if self.lost {
             return Ok(None);
         }
@@ -383,7 +383,7 @@ impl Held {
                 Ok(Some(verdict))
             }
             NameRule::Unique => {
-                // The document knows where its reading stands behind a verdict of its own.
+                // After a verdict of its own the document knows where its reading is.
                 self.document.verdict()?;
                 let bytes = self.copy()?;
                 let verdict = verdict_with_unique_names(
@@ -397,7 +397,7 @@ impl Held {
         }
     }
 
-    /// The lines that are no texts, as JSON Lines has them: how the first 1,000 are shown, and how many more there are; none where
+    /// The lines that are not valid JSON, as JSON Lines has them: how the first 1,000 are shown, and how many more there are; none where
     /// the bytes are lost. Names may be repeated, whatever the settings say. Lines that no change has touched are not read again.
     pub fn line_marks(&mut self, encoding: Encoding) -> Result<Option<LineMarks>, AllocError>
         ensures same { self.new ≡ self.old }

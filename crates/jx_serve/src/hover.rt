@@ -7,7 +7,7 @@ use jx_edit::Position;
 pub struct Hover {
     /// A value of the text that stands in the place of the document's bytes.
     pub value: ValueAt,
-    /// How many of these bytes stand before the fault. The value is shown as far as they go.
+    /// How many of these bytes are before the fault. The value is shown as far as they go.
     pub kept: usize,
     pub start: Position,
     pub end: Position,

@@ -31,7 +31,7 @@ fn copied(document: &Document, from: usize, to: usize) -> Result<Vec<u8>, AllocE
     }
 }
 
-/// Where the first line feed of a document behind an offset ends, by another offset; none where no one does.
+/// Where the first line feed of a document after an offset ends, by another offset; none where no one does.
 fn line_end(document: &Document, from: usize, to: usize) -> Option<usize>
     requires within { to ≤ length document.now.bytes }
     ensures { IfSome result (λ end. (from < end) × (end ≤ to)) }

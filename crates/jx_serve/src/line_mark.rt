@@ -1,4 +1,4 @@
-// Where the lines of a document that are no texts are shown.
+// Diagnostics of the lines of a document that are not valid JSON.
 ghost use Rattle.std.specs.Prelude.{◌≡◌, ◌≤◌, ◌<◌, ◌+◌, ◌&&◌, false, take, IfOk};
 ghost use Rattle.jx_serve.specs.LineMarks.{fault_in, is_blank, marked, most_marks, AreLineMarks, AreMarksOf, IsAround, IsMarkOf, IsShownBy, IsWhole};
 ghost use Rattle.jx_serve.specs.inside.LineTables.{IsTable};
@@ -14,20 +14,20 @@ use jx_ndjson::{JudgedLine, LineVerdict};
 use jx_run::{Refusal, Settings};
 use std::alloc::{AllocError, Global};
 
-/// A line of a document that is no text, and how it is shown.
+/// The diagnostic of a line of a document that is not valid JSON.
 #[derive(Debug, Drop)]
 pub struct LineMark {
     pub line: JudgedLine,
-    /// What is wrong with it, as it is spelt in a string.
+    /// The sentence on what is wrong with it, as the inside of a JSON string.
     pub sentence: Vec<u8>,
     pub start: Position,
     pub end: Position,
 }
 
-/// The lines of a document that are no texts.
+/// The diagnostics of a document's lines.
 #[derive(Debug, Drop)]
 pub struct LineMarks {
-    /// How the first 1,000 are shown, and of blank ones the first alone.
+    /// Those of the first 1,000 lines, and of lines of white space alone for the first of them only.
     pub marks: Vec<LineMark>,
     /// How many more there are.
     pub more: usize,
@@ -77,7 +77,7 @@ fn around(document: &Document, encoding: Encoding, span: Span, offset: usize) ->
     whole(document, encoding, span_around(document, span, offset))
 }
 
-/// Where a line is shown by what it comes to.
+/// The place where a line is shown, by its verdict.
 fn extent_of(document: &Document, encoding: Encoding, line: &JudgedLine) -> Extent
     ensures { IsShownBy encoding document.now.bytes line.now.span line.now.verdict result.start result.end }
 {
@@ -91,7 +91,7 @@ fn extent_of(document: &Document, encoding: Encoding, line: &JudgedLine) -> Exte
     }
 }
 
-/// How a line is shown that is no text.
+/// The diagnostic of a line that is not valid JSON.
 fn mark_of_line(
     alloc: Global,
     document: &Document,
@@ -111,7 +111,7 @@ fn mark_of_line(
     })
 }
 
-/// How lines are shown that are no texts.
+/// The diagnostics of lines that are not valid JSON.
 fn marks_of(
     alloc: Global,
     document: &Document,
@@ -129,7 +129,7 @@ fn marks_of(
     Ok(marks)
 }
 
-/// Whether a line is blank.
+/// Whether a line has no byte, or white space alone.
 fn is_blank(verdict: LineVerdict) -> bool
     ensures { result ≡ is_blank verdict }
 {
@@ -139,14 +139,14 @@ fn is_blank(verdict: LineVerdict) -> bool
     }
 }
 
-/// Whether a line is blank, where a blank one may have been seen before.
+/// Whether a line is left out: it has white space alone, and such a line may have been seen before.
 fn is_passed(seen: bool, verdict: LineVerdict) -> bool
     ensures { result ≡ (seen && is_blank verdict) }
 {
     seen && is_blank(verdict)
 }
 
-/// Lines without the blank ones behind the first blank one.
+/// Returns lines without those of white space alone that follow the first such line.
 fn marked(alloc: Global, lines: &[JudgedLine]) -> Result<Vec<JudgedLine>, AllocError>
     ensures { IfOk result (λ kept. kept.items ≡ marked false lines.now) }
 {
@@ -169,7 +169,7 @@ fn first_of(lines: &[JudgedLine]) -> &[JudgedLine]
     &lines[..MOST.min(lines.len())]
 }
 
-/// The lines of a document that are no texts by settings: how the first 1,000 are shown, and how many more there are. Names may be
+/// Returns the diagnostics of a document's first 1,000 lines that are not valid JSON, and how many more there are. Names may be
 /// repeated, whatever the settings say. Lines that were read before are not read again.
 pub(crate) fn line_marks_of(
     alloc: Global,

@@ -68,7 +68,7 @@ fn push_refused(
     }
 }
 
-/// What is wrong with a line that is no text, in a sentence, as it is spelt in a string. The bytes of the line are read.
+/// The sentence on a line that is not valid JSON, as the inside of a JSON string. The bytes of the line are read.
 pub(crate) fn sentence_on_line(
     alloc: Global,
     document: &Document,

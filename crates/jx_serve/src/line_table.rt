@@ -1,4 +1,4 @@
-// Whole lines of a document that were read. Behind an edit only those are read again that it touches.
+// Whole lines of a document that were read. After an edit only those are read again that it touches.
 ghost use Rattle.std.specs.Prelude.{◌≡◌, ◌≤◌, ◌<◌, ◌+◌, ◌-◌, ◌^◌, ℕ, List, length, take, true, IfOk, OnOk};
 ghost use Rattle.jx_serve.specs.inside.LineTables.{len_of, IsBlockAt, IsLaid, IsTable};
 
@@ -8,14 +8,14 @@ use jx_lex::Depth;
 use jx_ndjson::WholeLines;
 use std::alloc::{AllocError, Global};
 
-/// Whole lines of a document, in blocks: those with which it begins, and those behind bytes that are to be read.
+/// Whole lines of a document, in blocks: those with which it begins, and those after bytes that are to be read.
 #[derive(Drop)]
 pub struct LineTable {
     /// The blocks with which the bytes begin.
     pub(crate) front: Vec<WholeLines>,
     /// How many bytes those have.
     pub(crate) before: usize,
-    /// The blocks behind the bytes that are to be read.
+    /// The blocks after the bytes that are to be read.
     pub(crate) back: Vec<WholeLines>,
     /// How many bytes stand from the first of those on.
     pub(crate) behind: usize,
@@ -75,7 +75,7 @@ impl LineTable {
         self.before = bytes;
     }
 
-    /// Forgets the lines behind the bytes that are to be read.
+    /// Forgets the lines after the bytes that are to be read.
     fn forget_back(&mut self)
         ensures table { (limit : ℕ) (bytes : List ℕ) → IsTable limit bytes self.old → IsTable limit bytes self.new }
         ensures before { self.new.before ≡ self.old.before }
@@ -85,7 +85,7 @@ impl LineTable {
         self.behind = 0;
     }
 
-    /// Puts the blocks in front from one on, which begins at an offset, behind bytes that are to be read.
+    /// Puts the blocks in front from one on, which begins at an offset, after bytes that are to be read.
     fn put_back(&mut self, len: usize, count: usize, start: usize)
         requires alone { self.old.behind ≡ 0 }
         requires count { count ≤ length self.old.front.items }
@@ -104,7 +104,7 @@ impl LineTable {
         }
     }
 
-    /// Puts the blocks that begin behind an offset behind bytes that are to be read, unless there are such blocks.
+    /// Puts the blocks that begin after an offset after bytes that are to be read, unless there are such blocks.
     fn set_aside(&mut self, len: usize, end: usize)
         requires { end ≤ len }
         ensures table { (limit : ℕ) (bytes : List ℕ) → length bytes ≡ len → IsTable limit bytes self.old → IsTable limit bytes self.new }
@@ -149,7 +149,7 @@ impl LineTable {
         Ok(())
     }
 
-    /// Reads the next block behind those in front, before an offset, and answers whether there is one.
+    /// Reads the next block after those in front, before an offset, and answers whether there is one.
     fn read_block(
         &mut self,
         alloc: Global,
@@ -197,7 +197,7 @@ impl LineTable {
         Ok(())
     }
 
-    /// Puts the blocks behind to those in front, where no byte stands between them.
+    /// Adds the blocks after those bytes to those in front, where no byte stands between them.
     fn join(&mut self, len: usize) -> Result<(), AllocError>
         ensures table { (limit : ℕ) (bytes : List ℕ) → length bytes ≡ len → self.old.before + self.old.behind ≡ len → IsTable limit bytes self.old → IsTable limit bytes self.new }
     {

@@ -1,4 +1,4 @@
-// The lines of a document that are no texts, in messages.
+// Messages on the lines of a document that are not valid JSON.
 ghost use Rattle.std.specs.Prelude.{◌≡◌, ◌++◌, IfOk, OnOk, string_bytes};
 ghost use Rattle.std.specs.List.{flat_map};
 ghost use Rattle.jx_serve.specs.Words.{line_diagnostic, line_diagnostics, more_diagnostic, next_diagnostic, published_lines, word_of_line, words_of_line_place, words_of_more};
@@ -9,7 +9,7 @@ use crate::selections::Extent;
 use jx_ndjson::LineVerdict;
 use std::alloc::{AllocError, Global};
 
-/// What `jx lines` prints of a line, without the offset.
+/// The verdict of a line as `jx lines` prints it, without the offset.
 fn word_of_line(verdict: LineVerdict) -> &'static str
     ensures { result.now ≡ word_of_line verdict }
 {
@@ -21,7 +21,7 @@ fn word_of_line(verdict: LineVerdict) -> &'static str
     }
 }
 
-/// The offset of a refusal, behind the sentence of a line.
+/// The offset of a refusal, after the sentence of a line.
 fn words_of_line_place(alloc: Global, verdict: LineVerdict) -> Result<String, AllocError>
     ensures { IfOk result (λ words. string_bytes words ≡ words_of_line_place verdict) }
 {
@@ -42,10 +42,10 @@ fn add_line_mark(alloc: Global, out: &mut Vec<u8>, mark: &LineMark) -> Result<()
     };
     let word = word_of_line(mark.line.verdict);
     let place = words_of_line_place(alloc, mark.line.verdict)?;
-    add_told(alloc, out, extent, word, &mark.sentence, place.as_str())
+    add_told(out, extent, word, &mark.sentence, place.as_str())
 }
 
-/// Adds diagnostics behind another one.
+/// Adds diagnostics after another one.
 fn add_others(alloc: Global, out: &mut Vec<u8>, marks: &[LineMark]) -> Result<(), AllocError>
     ensures { OnOk result (out.new.items ≡ out.old.items ++ flat_map next_diagnostic marks.now) }
 {
@@ -63,7 +63,7 @@ fn words_of_more(alloc: Global, more: usize) -> Result<String, AllocError>
     format!(in alloc; "more lines that are no JSON texts: {more}")
 }
 
-/// Adds a diagnostic behind others that tells how many more lines there are, if there are any, at the first of all.
+/// Adds a last diagnostic, in the first line, that says how many more lines there are, if there are any.
 fn add_more(
     alloc: Global,
     out: &mut Vec<u8>,
@@ -81,7 +81,7 @@ fn add_more(
     };
     let sentence = words_of_more(alloc, more)?;
     out.extend_from_slice(b",")?;
-    add_told(alloc, out, extent, "more", sentence.as_bytes(), "")
+    add_told(out, extent, "more", sentence.as_bytes(), "")
 }
 
 fn add_line_marks(
@@ -102,7 +102,7 @@ fn add_line_marks(
     }
 }
 
-/// Adds the message that publishes the lines of a document that are no texts.
+/// Adds the message that publishes the lines of a document that are not valid JSON.
 pub(crate) fn add_published_lines(
     alloc: Global,
     out: &mut Vec<u8>,

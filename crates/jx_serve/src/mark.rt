@@ -11,7 +11,7 @@ use std::alloc::{AllocError, Global};
 #[derive(Debug, Drop)]
 pub struct Mark {
     pub refusal: Refusal,
-    /// What is wrong there, as it is spelt in a string.
+    /// The sentence on what is wrong there, as the inside of a JSON string.
     pub sentence: Vec<u8>,
     pub start: Position,
     pub end: Position,
@@ -90,7 +90,7 @@ fn shown_at(document: &Document, refusal: Refusal) -> usize
     }
 }
 
-/// How a verdict by settings is shown: a refusal by the character at its offset, with a sentence. What is accepted has no mark.
+/// The diagnostic of a verdict by settings: a refusal at the character at its offset, with a sentence; none where it is accepted.
 pub fn mark_of(
     alloc: Global,
     document: &Document,

@@ -10,12 +10,12 @@ use jx_wire::{StringFault, unescaped};
 use std::alloc::{AllocError, Global};
 use std::str;
 
-/// Why a pointer is not spelt.
+/// Why a value has no pointer.
 #[derive(Clone, Copy, Debug, PartialEq, Eq)]
 enum PointerLack {
     /// A name has half of a surrogate pair without the other half.
     LoneSurrogate,
-    /// A growth of memory was refused.
+    /// An allocation failed.
     Memory,
 }
 
@@ -107,7 +107,7 @@ fn leads_to(index: &Indexed, pointer: &[u8], number: usize) -> bool
     }
 }
 
-/// A pointer that leads to the row of a number. It is looked up before it is told: there is none where a name on the way is
+/// The pointer to the row of a number. It is looked up before it is returned: there is none where a name on the way is
 /// repeated in its object, or has half of a surrogate pair without the other half.
 pub(crate) fn pointer_to(
     alloc: Global,

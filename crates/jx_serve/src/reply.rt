@@ -1,4 +1,4 @@
-// What the server tells the client.
+// What the server sends to the client.
 use crate::hover::Hover;
 use crate::line_mark::LineMarks;
 use crate::mark::Mark;
@@ -19,7 +19,7 @@ pub enum Code {
     InvalidParams,
     /// It comes before `initialize`.
     NotInitialized,
-    /// A growth of memory was refused.
+    /// An allocation failed.
     RequestFailed,
 }
 
@@ -32,11 +32,11 @@ pub enum Trouble {
     NotOpen,
     /// The bytes that the client has are lost.
     Lost,
-    /// A growth of memory was refused.
+    /// An allocation failed.
     Memory,
 }
 
-/// What the server tells the client of a message.
+/// A reply of the server to a message.
 #[derive(Debug, Drop)]
 pub enum Reply {
     Nothing,
@@ -54,7 +54,7 @@ pub enum Reply {
         id: Vec<u8>,
         hover: Hover,
     },
-    /// The values of a document, whose name is spelt so. They are shown in each other, or one behind another.
+    /// The values of a document, whose name is written so. They are shown nested, or in one list.
     Outlined {
         id: Vec<u8>,
         uri: Vec<u8>,
@@ -66,7 +66,7 @@ pub enum Reply {
         id: Vec<u8>,
         outline: Outline,
     },
-    /// What stands around places of a document, one for each.
+    /// The ranges around places of a document, a list for each place.
     Selected {
         id: Vec<u8>,
         selections: Vec<Selection>,
@@ -77,19 +77,19 @@ pub enum Reply {
         code: Code,
         refusal: Option<Refusal>,
     },
-    /// The verdict on a document of this version. What is accepted has no mark.
+    /// The verdict on a document of this version. An accepted one has no diagnostic.
     Published {
         uri: Vec<u8>,
         version: Option<Vec<u8>>,
         mark: Option<Mark>,
     },
-    /// The lines of a document of this version that are no texts. Where each line is one there is no mark.
+    /// The diagnostics of a document of this version that is JSON Lines. An accepted line has none.
     PublishedLines {
         uri: Vec<u8>,
         version: Option<Vec<u8>>,
         marks: LineMarks,
     },
-    /// That a document is closed: its mark is taken away.
+    /// That a document is closed: its diagnostics are removed.
     Closed {
         uri: Vec<u8>,
     },

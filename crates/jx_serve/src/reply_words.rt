@@ -1,8 +1,9 @@
 // Replies as messages.
-ghost use Rattle.std.specs.Prelude.{◌≡◌, ◌++◌, [], IfOk, IfSome, OnOk, string_bytes};
+ghost use Rattle.std.specs.Prelude.{◌≡◌, ◌++◌, [], true, IfOk, IfSome, OnOk, string_bytes};
 ghost use Rattle.jx_index.specs.ByNames.{IsVerdictBy};
 ghost use Rattle.jx_run.specs.declared.texts.verdict.Verdict.TheVariants.{Accepted};
 ghost use Rattle.jx_serve.specs.Messages.{message_settings};
+ghost use Rattle.jx_serve.specs.inside.Sound.{IsWhole};
 ghost use Rattle.jx_serve.specs.Words.{diagnostic, initialized, logged, null_of, number_of_code, opening, published, refused, told_at, word_of_refusal, words_of_code, words_of_id, words_of_place, words_of_refusal, words_of_trouble, IsMessageOf};
 
 use crate::fold_words::add_folded;
@@ -12,7 +13,8 @@ use crate::nested_words::add_nested;
 use crate::reply::{Code, Reply, Trouble};
 use crate::selection_words::add_selected;
 use crate::selections::Extent;
-use crate::value_words::{add_all, add_hovered, add_outlined, add_range};
+use crate::symbol_words::add_outlined;
+use crate::value_words::{add_all, add_hovered, add_range};
 use jx_index::verdict_with_unique_names;
 use jx_lex::Depth;
 use jx_run::{FrontMark, NameRule, NoPause, Refusal, Settings, Verdict};
@@ -70,7 +72,7 @@ pub(crate) fn code_of_refusal(refusal: Refusal) -> &'static str
     }
 }
 
-/// What `jx check` prints for a refusal.
+/// The words of a refusal, as `jx check` prints them.
 fn words_of_refusal(alloc: Global, refusal: Refusal) -> Result<String, AllocError>
     ensures { IfOk result (λ words. string_bytes words ≡ words_of_refusal refusal) }
 {
@@ -83,7 +85,7 @@ fn words_of_refusal(alloc: Global, refusal: Refusal) -> Result<String, AllocErro
     }
 }
 
-/// The offset of a refusal, behind its sentence.
+/// The offset of a refusal, after its sentence.
 pub(crate) fn words_of_place(alloc: Global, refusal: Refusal) -> Result<String, AllocError>
     ensures { IfOk result (λ words. string_bytes words ≡ words_of_place refusal) }
 {
@@ -127,7 +129,7 @@ fn add_null(out: &mut Vec<u8>, id: &[u8]) -> Result<(), AllocError>
     )
 }
 
-/// How an id is spelt; one that was not read is `null`.
+/// The bytes of an id as it was written; one that was not read is `null`.
 fn words_of_id(id: &Option<Vec<u8>>) -> &[u8]
     ensures { result.now ≡ words_of_id id.now }
 {
@@ -165,9 +167,8 @@ fn add_refused(
     out.extend_from_slice(b"}}")
 }
 
-/// Adds a diagnostic: a range, the word for what is wrong there, its sentence, and the place behind it.
+/// Adds a diagnostic: a range, the word for what is wrong there, its sentence, and the place after it.
 pub(crate) fn add_told(
-    alloc: Global,
     out: &mut Vec<u8>,
     extent: Extent,
     word: &str,
@@ -177,7 +178,7 @@ pub(crate) fn add_told(
     ensures { OnOk result (out.new.items ≡ out.old.items ++ told_at extent.start extent.end word.now sentence.now place.now) }
 {
     out.extend_from_slice(b"{")?;
-    add_range(alloc, out, extent.start, extent.end)?;
+    add_range(out, extent.start, extent.end)?;
     add_all(
         out,
         &[
@@ -200,7 +201,7 @@ fn add_mark(alloc: Global, out: &mut Vec<u8>, mark: &Mark) -> Result<(), AllocEr
     };
     let word = code_of_refusal(mark.refusal);
     let place = words_of_place(alloc, mark.refusal)?;
-    add_told(alloc, out, extent, word, &mark.sentence, place.as_str())
+    add_told(out, extent, word, &mark.sentence, place.as_str())
 }
 
 /// Adds the message that publishes diagnostics, up to the first of them.
@@ -265,17 +266,11 @@ fn add_reply(alloc: Global, out: &mut Vec<u8>, reply: &Reply) -> Result<(), Allo
         Reply::Outlined {
             id,
             uri,
-            nested,
             outline,
-        } => {
-            if *nested {
-                add_nested(alloc, out, id, outline)
-            } else {
-                add_outlined(alloc, out, id, uri, outline)
-            }
-        }
-        Reply::Folded { id, outline } => add_folded(alloc, out, id, outline),
-        Reply::Selected { id, selections } => add_selected(alloc, out, id, selections),
+            ..
+        } => add_outlined(alloc, out, id, uri, outline),
+        Reply::Folded { id, outline } => add_folded(out, id, outline),
+        Reply::Selected { id, selections } => add_selected(out, id, selections),
         Reply::Refused { id, code, refusal } => add_refused(alloc, out, id, *code, *refusal),
         Reply::Published { uri, version, mark } => add_published(alloc, out, uri, version, mark),
         Reply::PublishedLines {
@@ -285,6 +280,26 @@ fn add_reply(alloc: Global, out: &mut Vec<u8>, reply: &Reply) -> Result<(), Allo
         } => add_published_lines(alloc, out, uri, version, marks),
         Reply::Closed { uri } => add_published(alloc, out, uri, &None, &None),
         Reply::Logged { trouble } => add_logged(out, *trouble),
+    }
+}
+
+/// Adds the message of a reply, and returns whether it is known to be a JSON text that repeats no name.
+fn add_message(alloc: Global, out: &mut Vec<u8>, reply: &Reply) -> Result<bool, AllocError>
+    requires { out.old.items ≡ [] }
+    ensures spelt { IfOk result (λ known. IsMessageOf reply.now out.new.items) }
+    ensures known { IfOk result (λ known. known ≡ true → IsWhole 512 out.new.items) }
+{
+    match reply {
+        Reply::Outlined {
+            id,
+            nested: true,
+            outline,
+            ..
+        } => add_nested(alloc, out, id, outline),
+        _ => {
+            add_reply(alloc, out, reply)?;
+            Ok(false)
+        }
     }
 }
 
@@ -305,14 +320,17 @@ fn verdict_on(alloc: Global, text: &[u8]) -> Result<Verdict, AllocError>
     verdict_with_unique_names(alloc, text, &message_settings(), &mut NoPause)
 }
 
-/// The message that tells a reply: a JSON text (RFC 8259) that repeats no name. It is read before it is handed out; none where it is
-/// no such text. `Err` where memory is refused.
+/// The message for a reply: a JSON text (RFC 8259) that repeats no name. What is not known to be one is read before it is
+/// returned; none where it is no such text. `Err` when out of memory.
 pub fn message_of(alloc: Global, reply: &Reply) -> Result<Option<Vec<u8>>, AllocError>
     ensures text { IfOk result (λ told. IfSome told (λ message. IsVerdictBy message_settings message.items Accepted)) }
     ensures spelt { IfOk result (λ told. IfSome told (λ message. IsMessageOf reply.now message.items)) }
 {
     let mut message = Vec::new(alloc);
-    add_reply(alloc, &mut message, reply)?;
+    let known = add_message(alloc, &mut message, reply)?;
+    if known {
+        return Ok(Some(message));
+    }
     match verdict_on(alloc, &message)? {
         Verdict::Accepted => Ok(Some(message)),
         Verdict::Refused(_) => Ok(None),

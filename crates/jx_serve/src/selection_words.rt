@@ -2,11 +2,10 @@
 use crate::selections::{Extent, Selection};
 use crate::value_words::{add_range, begin_list};
 use jx_edit::Position;
-use std::alloc::{AllocError, Global};
+use std::alloc::AllocError;
 
 /// Adds a range of a `SelectionRange`, as the parent of the one before it or as the first.
 fn add_extent(
-    alloc: Global,
     out: &mut Vec<u8>,
     is_first: bool,
     start: Position,
@@ -16,7 +15,7 @@ fn add_extent(
         out.extend_from_slice(b",\"parent\":")?;
     }
     out.extend_from_slice(b"{")?;
-    add_range(alloc, out, start, end)
+    add_range(out, start, end)
 }
 
 /// Ends so many ranges.
@@ -28,31 +27,26 @@ fn close(out: &mut Vec<u8>, count: usize) -> Result<(), AllocError> {
 }
 
 /// Adds the ranges around a place, the innermost first.
-fn add_around(alloc: Global, out: &mut Vec<u8>, around: &[Extent]) -> Result<(), AllocError> {
+fn add_around(out: &mut Vec<u8>, around: &[Extent]) -> Result<(), AllocError> {
     let mut is_first = true;
     for extent in around.iter().rev() {
-        add_extent(alloc, out, is_first, extent.start, extent.end)?;
+        add_extent(out, is_first, extent.start, extent.end)?;
         is_first = false;
     }
     close(out, around.len())
 }
 
 /// Adds a `SelectionRange`: the ranges around a place, or an empty one there.
-fn add_selection(
-    alloc: Global,
-    out: &mut Vec<u8>,
-    selection: &Selection,
-) -> Result<(), AllocError> {
+fn add_selection(out: &mut Vec<u8>, selection: &Selection) -> Result<(), AllocError> {
     if selection.around.is_empty() {
-        add_extent(alloc, out, true, selection.place, selection.place)?;
+        add_extent(out, true, selection.place, selection.place)?;
         return close(out, 1);
     }
-    add_around(alloc, out, &selection.around)
+    add_around(out, &selection.around)
 }
 
-/// Adds the answer that tells what stands around places.
+/// Adds the answer that lists the values around places.
 pub(crate) fn add_selected(
-    alloc: Global,
     out: &mut Vec<u8>,
     id: &[u8],
     selections: &[Selection],
@@ -62,7 +56,7 @@ pub(crate) fn add_selected(
         if 0 < number {
             out.extend_from_slice(b",")?;
         }
-        add_selection(alloc, out, selection)?;
+        add_selection(out, selection)?;
     }
     out.extend_from_slice(b"]}")
 }

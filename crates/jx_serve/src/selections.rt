@@ -10,17 +10,17 @@ use jx_lex::Span;
 use jx_wire::Place;
 use std::alloc::{AllocError, Global};
 
-/// A stretch of a document: the positions of both its ends.
+/// A range of a document: the positions of both its ends.
 #[derive(Clone, Copy, Debug)]
 pub struct Extent {
     pub start: Position,
     pub end: Position,
 }
 
-/// How many stretches are told around a place at most. A message has a container for each.
+/// The most ranges that are listed around a place. A message has a container for each.
 const LEVELS: usize = 200;
 
-/// A place of a document, and the innermost values, names and members that hold it, each with those in it behind it.
+/// A place of a document, and the innermost values, names and members that hold it, each with those in it after it.
 #[derive(Debug, Drop)]
 pub struct Selection {
     pub place: Position,
@@ -63,7 +63,7 @@ fn add_member(
     Ok(())
 }
 
-/// The same of a value that may have a name.
+/// Adds the spans that hold an offset, of a value that may have a name.
 fn add_around(chain: &mut Vec<Span>, row: &Row, offset: usize) -> Result<(), AllocError>
     ensures { OnOk result (chain.new.items ≡ chain.old.items ++ spans_at offset row.now) }
 {
@@ -84,7 +84,7 @@ fn chain_of(alloc: Global, rows: &[Row], offset: usize) -> Result<Vec<Span>, All
     Ok(chain)
 }
 
-/// The same, where the offset stands before so many bytes.
+/// The spans that hold an offset, in the order of their starts, where the offset is before so many bytes.
 fn chain_before(
     alloc: Global,
     rows: &[Row],
@@ -132,7 +132,7 @@ fn innermost(chain: &[Span]) -> &[Span]
     &chain[chain.len().saturating_sub(LEVELS)..]
 }
 
-/// What holds a place of a document.
+/// The ranges that hold a place of a document.
 fn selection_at(
     alloc: Global,
     document: &Document,
@@ -151,7 +151,7 @@ fn selection_at(
     Ok(Selection { place, around })
 }
 
-/// What holds each of some places of a document.
+/// The ranges that hold each of some places of a document.
 pub(crate) fn selections_of(
     alloc: Global,
     document: &Document,

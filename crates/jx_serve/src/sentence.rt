@@ -28,7 +28,7 @@ pub(crate) fn bytes_between(
     }
 }
 
-/// Where the string begins in which bytes end, if it begins among them: at the last quotation mark behind no backslash. Another
+/// Where the string begins in which bytes end, if it begins among them: at the last quotation mark after no backslash. Another
 /// byte stands in front of the bytes.
 fn string_start(front: u8, bytes: &[u8]) -> Option<usize> {
     let mut start = None;
@@ -87,14 +87,14 @@ fn push_name(
     push_sentence(alloc, out, &text, refusal, settings)
 }
 
-/// A sentence as it is spelt in a string, without the quotation marks.
+/// A sentence as the inside of a JSON string, without the quotation marks.
 pub(crate) fn inside_quotes(alloc: Global, sentence: &String) -> Result<Vec<u8>, AllocError> {
     let spelt = quoted(alloc, sentence.as_bytes())?;
     let inside = spelt.get(1..spelt.len().saturating_sub(1)).unwrap_or(&[]);
     Vec::from_slice(alloc, inside)
 }
 
-/// What is wrong with a document that settings refuse, in a sentence, as it is spelt in a string. Behind a verdict of the document
+/// The sentence on a document that settings refuse, as the inside of a JSON string. After a verdict of the document
 /// a few bytes are read, and all bytes where a name is repeated.
 pub(crate) fn sentence_on(
     alloc: Global,

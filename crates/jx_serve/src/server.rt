@@ -20,9 +20,9 @@ pub enum Phase {
     /// Before `initialize`.
     New,
     Ready,
-    /// Behind `shutdown`.
+    /// After `shutdown`.
     Down,
-    /// Behind `exit`, which is clean behind `shutdown` alone.
+    /// After `exit`, which is clean after `shutdown` alone.
     Ended { clean: bool },
 }
 
@@ -78,7 +78,7 @@ impl Open {
         }
     }
 
-    /// The lines of the document that are no texts.
+    /// The diagnostics of the document's lines.
     fn published_lines(
         &mut self,
         alloc: Global,
@@ -198,7 +198,7 @@ impl Open {
         }
     }
 
-    /// What stands around places of the document, as the answer to a request.
+    /// The ranges around places of the document, as the answer to a request.
     fn selected(&self, id: Vec<u8>, places: &[Place], encoding: Encoding) -> Reply
         ensures answers { IsAnswer (Some id) result }
         ensures quiet { IsQuiet result }
@@ -215,7 +215,7 @@ impl Open {
     }
 }
 
-/// What a server knows of its client: how far it has come with it, and which documents it has open.
+/// The state of a server: how far it has come with its client, and which documents are open.
 #[derive(Drop)]
 pub struct Server {
     alloc: Global,
@@ -299,7 +299,7 @@ impl Server {
         lose_all(&mut self.documents);
     }
 
-    /// Follows a message, and tells what to answer.
+    /// Follows a message, and returns what to answer.
     pub fn step(&mut self, request: Request) -> Reply
         ensures steps { Steps request self.old self.new result }
         ensures answers { IsAnswer request.id result }
@@ -478,7 +478,7 @@ impl Server {
         }
     }
 
-    /// Adds a document behind those that are open.
+    /// Adds a document after those that are open.
     fn add(&mut self, uri: Uri, content: Content, text: &Change) -> Result<(), AllocError>
         ensures some { OnOk result (0 < length self.new.documents) }
         ensures ok { OnOk result (self.new ≡ with_documents (self.old.documents ++ sent self.old uri content text.now ∷ []) self.old) }
@@ -491,7 +491,7 @@ impl Server {
         Ok(())
     }
 
-    /// Follows the changes of a document, and publishes the verdict behind them, or that on its lines.
+    /// Follows the changes of a document, and publishes the verdict after them, or that on its lines.
     pub fn change(&mut self, document: Versioned, changes: &[Change]) -> Reply
         ensures answers { IsAnswer None result }
         ensures tells { TellsVerdict self.new result }

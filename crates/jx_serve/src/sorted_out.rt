@@ -8,7 +8,7 @@ use crate::server::Server;
 use jx_wire::{RequestFault, request_of};
 use std::alloc::Global;
 
-/// Follows the body of a frame, and tells what to answer. A message that cannot be read may have been a change: all documents are
+/// Follows the body of a frame, and returns what to answer. A message that cannot be read may have been a change: all documents are
 /// lost until their whole texts come.
 pub fn answer_to(alloc: Global, server: &mut Server, body: Vec<u8>) -> Reply
     ensures tells { TellsVerdict server.new result }
@@ -45,7 +45,7 @@ fn may_be_a_change(fault: &RequestFault) -> bool
     }
 }
 
-/// What is answered to a message that is no request.
+/// The reply to a message that is no request.
 fn answer_to_fault(fault: RequestFault) -> Reply
     ensures quiet { IsQuiet result }
     ensures reply { result ≡ reply_to fault }
@@ -75,7 +75,7 @@ fn answer_to_fault(fault: RequestFault) -> Reply
     }
 }
 
-/// What is told to a client whose stream of frames cannot be read on.
+/// The reply to a client whose stream of frames cannot be read on.
 pub fn broken_stream() -> Reply
     ensures { result ≡ Reply.Refused None Code.ParseError None }
 {

@@ -1,12 +1,15 @@
 // The values of a document, for an outline.
-ghost use Rattle.std.specs.Prelude.{◌≡◌, ◌≤◌, ◌<◌, nat_le, IfOk, IfSome, length, map, position, take};
+ghost use Rattle.std.specs.Prelude.{◌≡◌, ◌≤◌, ◌<◌, ℕ, List, nat_le, IfOk, IfSome, length, map, position, take};
+ghost use Rattle.jx_edit.specs.Positions.{position_at};
+ghost use Rattle.jx_edit.specs.declared.positions.encoding.Encoding.{Encoding};
 ghost use Rattle.jx_index.specs.declared.row.Row.{Row};
 ghost use Rattle.jx_serve.specs.Values.{label_of, most_symbols, rows_before, symbol_of};
 
+use crate::near::{Known, beginning, position_near};
 use crate::under_cursor::outer_start;
 use jx_edit::{Document, Encoding, Position};
 use jx_index::Row;
-use jx_lex::Span;
+use jx_lex::{Kind, Span};
 use std::alloc::{AllocError, Global};
 
 /// How many values are listed at most.
@@ -27,7 +30,7 @@ pub struct Symbol {
 /// Values of a document, in the order of their starts.
 #[derive(Debug, Drop)]
 pub struct Outline {
-    /// The text that stands in the place of the document's bytes, in which names stand as they are spelt.
+    /// The text that is read in place of the document's bytes, in which names are as they were written.
     pub text: Vec<u8>,
     pub symbols: Vec<Symbol>,
 }
@@ -42,16 +45,47 @@ fn label_of(row: &Row) -> Span
     }
 }
 
-/// A value with its positions, as far as so many bytes go.
-fn symbol_of(document: &Document, kept: usize, row: &Row, encoding: Encoding) -> Symbol
+/// A value with its positions, as far as so many bytes go. They are counted on from one that is known.
+fn symbol_of(
+    document: &Document,
+    before: &[u8],
+    kept: usize,
+    row: &Row,
+    known: Known,
+    encoding: Encoding,
+) -> Symbol
+    requires begins { take (length before.now) document.now.bytes ≡ before.now }
+    requires known { known.position ≡ position_at encoding document.now.bytes known.offset }
     ensures { result ≡ symbol_of encoding document.now.bytes kept row.now }
 {
+    let outer = position_near(document, before, known, outer_start(row), encoding);
+    let name_end = kept.min(label_of(row).end);
+    let label = position_near(document, before, outer, name_end, encoding);
+    let start = position_near(document, before, label, row.span.start, encoding);
+    let value_end = kept.min(row.span.end);
+    let end = position_near(document, before, start, value_end, encoding);
     Symbol {
         row: *row,
-        outer: document.position_of(outer_start(row), encoding),
-        label: document.position_of(kept.min(label_of(row).end), encoding),
-        start: document.position_of(row.span.start, encoding),
-        end: document.position_of(kept.min(row.span.end), encoding),
+        outer: outer.position,
+        label: label.position,
+        start: start.position,
+        end: end.position,
+    }
+}
+
+/// What is known behind a value: where a container begins, which has others in it, or where another value ends.
+fn known_behind(symbol: &Symbol, kept: usize) -> Known
+    ensures { (encoding : Encoding) (bytes : List ℕ) (row : Row) → symbol.now ≡ symbol_of encoding bytes kept row → result.position ≡ position_at encoding bytes result.offset }
+{
+    match symbol.row.kind {
+        Kind::Object | Kind::Array => Known {
+            offset: symbol.row.span.start,
+            position: symbol.start,
+        },
+        Kind::String | Kind::Number | Kind::True | Kind::False | Kind::Null => Known {
+            offset: kept.min(symbol.row.span.end),
+            position: symbol.end,
+        },
     }
 }
 
@@ -63,7 +97,7 @@ fn first_behind(rows: &[Row], offset: usize) -> Option<usize>
     rows.iter().position(|row| offset <= row.span.start)
 }
 
-/// How many rows stand before the first that does not begin before an offset.
+/// How many rows come before the first that does not begin before an offset.
 fn count_before(rows: &[Row], kept: usize) -> usize
     ensures rows { take result rows.now ≡ rows_before kept rows.now }
     ensures within { result ≤ length rows.now }
@@ -74,21 +108,30 @@ fn count_before(rows: &[Row], kept: usize) -> usize
     }
 }
 
-/// The first 10,000 values that begin before an offset, with their positions.
+/// The first 10,000 values that begin before an offset, with their positions. The text begins with the bytes before the offset.
 pub(crate) fn symbols_of(
     alloc: Global,
     document: &Document,
+    text: &[u8],
     rows: &[Row],
     kept: usize,
     encoding: Encoding,
 ) -> Result<Vec<Symbol>, AllocError>
+    requires begins { take kept text.now ≡ take kept document.now.bytes }
     ensures { IfOk result (λ symbols. symbols.items ≡ map (symbol_of encoding document.now.bytes kept) (take most_symbols (rows_before kept rows.now))) }
 {
     let count = count_before(rows, kept);
     let first = &rows[..MOST.min(count)];
+    let before = beginning(text, kept);
+    let mut known = Known {
+        offset: 0,
+        position: document.position_of(0, encoding),
+    };
     let mut symbols = Vec::new(alloc);
     for row in first {
-        symbols.push(symbol_of(document, kept, row, encoding))?;
+        let symbol = symbol_of(document, before, kept, row, known, encoding);
+        known = known_behind(&symbol, kept);
+        symbols.push(symbol)?;
     }
     Ok(symbols)
 }

@@ -3,7 +3,7 @@ ghost use Rattle.std.specs.Prelude.{◌≡◌, ◌<◌, None, IfOk, IfSome, leng
 ghost use Rattle.jx_serve.specs.Values.{holds, outer_start, IsFoundAt, IsInNone, IsInnermost};
 
 use crate::pointer_to::pointer_to;
-use jx_index::{Row, TextAnswer, indexes_stand_behind_fronts};
+use jx_index::{Row, TextAnswer, index_behind_a_front};
 use jx_run::Settings;
 use std::alloc::{AllocError, Global};
 
@@ -48,7 +48,7 @@ fn innermost(rows: &[Row], offset: usize) -> Option<usize>
 }
 
 /// Reads a JSON text (RFC 8259) by settings, and finds the innermost value that holds an offset. A member's value holds those of its
-/// name too, and those between both. None where the text is refused, or no value holds it. `Err` where memory is refused.
+/// name too, and those between both. None where the text is refused, or no value holds it. `Err` when out of memory.
 ///
 /// The value has no pointer where an object on the way to it repeats the name that leads on, and where such a name has half of
 /// a surrogate pair without the other half.
@@ -60,7 +60,7 @@ pub fn value_at(
 ) -> Result<Option<ValueAt>, AllocError>
     ensures { IfOk result (IsFoundAt settings.now text.now offset) }
 {
-    indexes_stand_behind_fronts();
+    index_behind_a_front();
     let answer = TextAnswer::read(alloc, text, settings)?;
     let index = match answer {
         TextAnswer::Refused(_) => return Ok(None),

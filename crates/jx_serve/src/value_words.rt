@@ -1,16 +1,16 @@
 // Values of a document in messages.
-ghost use Rattle.std.specs.Prelude.{◌≡◌, ◌++◌, OnOk};
+ghost use Rattle.std.specs.Prelude.{◌≡◌, ◌++◌, ℕ, suc, OnOk, decimal};
 ghost use Rattle.std.specs.List.{flat_map};
+ghost use Rattle.jx_lex.specs.Token.{IsNumber};
 ghost use Rattle.jx_serve.specs.Words.{ends, position as position_words, range};
+ghost use Rattle.jx_serve.specs.inside.Sound.{list_head, IsWhole};
 
 use crate::hover::Hover;
-use crate::symbols::{Outline, Symbol};
+use itoa::Buffer;
 use jx_edit::Position;
-use jx_index::Row;
 use jx_lex::Kind;
-use jx_wire::{StringFault, quoted, unescaped};
+use jx_wire::quoted;
 use std::alloc::{AllocError, Global};
-use std::str;
 
 pub(crate) fn add_all(out: &mut Vec<u8>, parts: &[&[u8]]) -> Result<(), AllocError>
     ensures { OnOk result (out.new.items ≡ out.old.items ++ flat_map (λ part. part.now) parts.now) }
@@ -21,54 +21,49 @@ pub(crate) fn add_all(out: &mut Vec<u8>, parts: &[&[u8]]) -> Result<(), AllocErr
     Ok(())
 }
 
-fn add_position(alloc: Global, out: &mut Vec<u8>, position: Position) -> Result<(), AllocError>
-    ensures { OnOk result (out.new.items ≡ out.old.items ++ position_words position) }
+/// Adds a number in decimal digits.
+pub(crate) fn add_number(out: &mut Vec<u8>, number: usize) -> Result<(), AllocError>
+    ensures words { OnOk result (out.new.items ≡ out.old.items ++ decimal number) }
+    ensures number { IsNumber (decimal number) }
 {
-    let Position { line, character } = position;
-    let line = format!(in alloc; "{line}")?;
-    let character = format!(in alloc; "{character}")?;
-    add_all(
-        out,
-        &[
-            b"{\"line\":",
-            line.as_bytes(),
-            b",\"character\":",
-            character.as_bytes(),
-            b"}",
-        ],
-    )
+    let mut buffer = Buffer::new();
+    out.extend_from_slice(buffer.format(number).as_bytes())
+}
+
+fn add_position(out: &mut Vec<u8>, position: Position) -> Result<(), AllocError>
+    ensures words { OnOk result (out.new.items ≡ out.old.items ++ position_words position) }
+    ensures value { OnOk result ((limit : ℕ) → IsWhole (suc limit) (position_words position)) }
+{
+    out.extend_from_slice(b"{\"line\":")?;
+    add_number(out, position.line)?;
+    out.extend_from_slice(b",\"character\":")?;
+    add_number(out, position.character)?;
+    out.extend_from_slice(b"}")?;
+    Ok(())
 }
 
 /// Adds the positions of both ends of a value.
-pub(crate) fn add_ends(
-    alloc: Global,
-    out: &mut Vec<u8>,
-    start: Position,
-    end: Position,
-) -> Result<(), AllocError>
-    ensures { OnOk result (out.new.items ≡ out.old.items ++ ends start end) }
+pub(crate) fn add_ends(out: &mut Vec<u8>, start: Position, end: Position) -> Result<(), AllocError>
+    ensures words { OnOk result (out.new.items ≡ out.old.items ++ ends start end) }
+    ensures value { OnOk result ((limit : ℕ) → IsWhole (suc (suc limit)) (ends start end)) }
 {
     out.extend_from_slice(b"{\"start\":")?;
-    add_position(alloc, out, start)?;
+    add_position(out, start)?;
     out.extend_from_slice(b",\"end\":")?;
-    add_position(alloc, out, end)?;
-    out.extend_from_slice(b"}")
+    add_position(out, end)?;
+    out.extend_from_slice(b"}")?;
+    Ok(())
 }
 
 /// Adds the member `range`.
-pub(crate) fn add_range(
-    alloc: Global,
-    out: &mut Vec<u8>,
-    start: Position,
-    end: Position,
-) -> Result<(), AllocError>
+pub(crate) fn add_range(out: &mut Vec<u8>, start: Position, end: Position) -> Result<(), AllocError>
     ensures { OnOk result (out.new.items ≡ out.old.items ++ range start end) }
 {
     out.extend_from_slice(b"\"range\":")?;
-    add_ends(alloc, out, start, end)
+    add_ends(out, start, end)
 }
 
-/// What `jx at` prints for a kind.
+/// The word for a kind, as `jx at` prints it.
 fn word_of_kind(kind: Kind) -> &'static str {
     match kind {
         Kind::Object => "object",
@@ -81,8 +76,8 @@ fn word_of_kind(kind: Kind) -> &'static str {
     }
 }
 
-/// What is shown of a value: its kind and its span as `jx at` prints them, and its pointer in a line of its own. It is told where
-/// the value goes on behind the fault, or is cut short.
+/// The words on a value: its kind and its span as `jx at` prints them, and its pointer in a line of its own. They say so where
+/// the value goes on after the fault, or is cut short.
 fn words_of_value(alloc: Global, hover: &Hover) -> Result<Vec<u8>, AllocError> {
     let value = &hover.value;
     let kind = word_of_kind(value.row.kind);
@@ -122,112 +117,16 @@ pub(crate) fn add_hovered(
             b"},",
         ],
     )?;
-    add_range(alloc, out, hover.start, hover.end)?;
-    out.extend_from_slice(b"}}")
-}
-
-/// The number of a kind (Language Server Protocol 3.17, "SymbolKind").
-fn symbol_kind(kind: Kind) -> &'static [u8] {
-    match kind {
-        Kind::String => b"15",
-        Kind::Number => b"16",
-        Kind::True | Kind::False => b"17",
-        Kind::Array => b"18",
-        Kind::Object => b"19",
-        Kind::Null => b"21",
-    }
-}
-
-/// Whether a text has no other characters than those that editors count as white space.
-fn is_blank(text: &[u8]) -> bool {
-    let Ok(text) = str::from_utf8(text) else {
-        return false;
-    };
-    for character in text.chars() {
-        if !character.is_whitespace() && character != '\u{feff}' {
-            return false;
-        }
-    }
-    true
-}
-
-/// The name of a member as a string: as the text spells it. Editors refuse a name that is blank, so its quotation marks are shown
-/// too. Some refuse half of a surrogate pair, so the spelling is shown where it stands alone.
-fn shown_name(alloc: Global, spelt: &[u8]) -> Result<Vec<u8>, AllocError> {
-    match unescaped(alloc, spelt) {
-        Ok(name) if is_blank(&name) => quoted(alloc, spelt),
-        Ok(_) => Vec::from_slice(alloc, spelt),
-        Err(StringFault::Memory) => Err(AllocError),
-        Err(StringFault::NoString | StringFault::LoneSurrogate) => {
-            let inside = spelt.get(1..spelt.len().saturating_sub(1));
-            quoted(alloc, inside.unwrap_or(spelt))
-        }
-    }
-}
-
-/// Adds the name of a value as a string: that of a member, or the place in an array.
-fn add_name(alloc: Global, out: &mut Vec<u8>, text: &[u8], row: &Row) -> Result<(), AllocError> {
-    if let Some(span) = row.name {
-        let spelt = text.get(span.start..span.end).unwrap_or(&[]);
-        let name = shown_name(alloc, spelt)?;
-        return out.extend_from_slice(&name);
-    }
-    if row.parent.is_none() {
-        return out.extend_from_slice(b"\"root\"");
-    }
-    let place = row.place;
-    let place = format!(in alloc; "\"{place}\"")?;
-    out.extend_from_slice(place.as_bytes())
-}
-
-/// Begins a symbol: the name of a value and its kind, and the comma behind them.
-pub(crate) fn add_named(
-    alloc: Global,
-    out: &mut Vec<u8>,
-    text: &[u8],
-    row: &Row,
-) -> Result<(), AllocError> {
-    out.extend_from_slice(b"{\"name\":")?;
-    add_name(alloc, out, text, row)?;
-    add_all(out, &[b",\"kind\":", symbol_kind(row.kind), b","])
-}
-
-/// Adds a value as a `SymbolInformation`.
-fn add_symbol(
-    alloc: Global,
-    out: &mut Vec<u8>,
-    uri: &[u8],
-    text: &[u8],
-    symbol: &Symbol,
-) -> Result<(), AllocError> {
-    add_named(alloc, out, text, &symbol.row)?;
-    add_all(out, &[b"\"location\":{\"uri\":", uri, b","])?;
-    add_range(alloc, out, symbol.outer, symbol.end)?;
+    add_range(out, hover.start, hover.end)?;
     out.extend_from_slice(b"}}")
 }
 
 /// Begins the answer to a request that is a list.
-pub(crate) fn begin_list(out: &mut Vec<u8>, id: &[u8]) -> Result<(), AllocError> {
-    add_all(
-        out,
-        &[b"{\"jsonrpc\":\"2.0\",\"id\":", id, b",\"result\":["],
-    )
-}
-
-/// Adds the answer that lists values.
-pub(crate) fn add_outlined(
-    alloc: Global,
-    out: &mut Vec<u8>,
-    id: &[u8],
-    uri: &[u8],
-    outline: &Outline,
-) -> Result<(), AllocError> {
-    begin_list(out, id)?;
-    for (number, symbol) in outline.symbols.iter().enumerate() {
-        if 0 < number {
-            out.extend_from_slice(b",")?;
-        }
-        add_symbol(alloc, out, uri, &outline.text, symbol)?;
-    }
-    out.extend_from_slice(b"]}")
+pub(crate) fn begin_list(out: &mut Vec<u8>, id: &[u8]) -> Result<(), AllocError>
+    ensures { OnOk result (out.new.items ≡ out.old.items ++ list_head id.now) }
+{
+    out.extend_from_slice(b"{\"jsonrpc\":\"2.0\",\"id\":")?;
+    out.extend_from_slice(id)?;
+    out.extend_from_slice(b",\"result\":[")?;
+    Ok(())
 }

@@ -11,7 +11,7 @@ mod tokens;
 mod units;
 
 pub use characters::{Characters, between_marks};
-pub use laws::strings_are_read;
+pub use laws::units_of_strings;
 pub use string_fault::StringFault;
 pub use texts::{has_text, unescaped};
 pub use tokens::{has_units, token_units};

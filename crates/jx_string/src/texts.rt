@@ -7,7 +7,7 @@ ghost use Rattle.jx_string.specs.inside.TextIn.{IsTextIn};
 
 use crate::characters::Characters;
 use crate::string_fault::StringFault;
-use jx_index::readings_are_forms;
+use jx_index::strings_pointers_and_rows;
 use std::alloc::{AllocError, Global};
 
 /// Whether a string stands for a text: no half of a surrogate pair stands in it without the other half. No memory is taken.
@@ -46,7 +46,7 @@ pub fn unescaped(alloc: Global, string: &[u8]) -> Result<Vec<u8>, StringFault>
     ensures string { (units : List ℕ) → IsString string.now units → IfErr result (λ fault. fault ≢ NoString) }
     ensures lone { (units : List ℕ) → IsString string.now units → IsErrOf result LoneSurrogate → utf8_of units ≡ None }
 {
-    readings_are_forms();
+    strings_pointers_and_rows();
     if string.len() < 2 {
         return Err(StringFault::NoString);
     }

@@ -15,14 +15,14 @@ pub struct Command {
     pub settings: Settings,
     /// How many threads read.
     pub workers: Workers,
-    /// How many bytes each piece has that a worker reads, at least 1; the last piece may have fewer.
+    /// How many bytes each chunk of a worker has, at least 1; the last chunk may have fewer.
     pub piece: usize,
     /// Whether nothing is to be written, so that the exit alone is the answer.
     pub quiet: bool,
 }
 
 impl Command {
-    /// Adds a pointer for each line of a text behind those that are asked for already; to a task that asks for none it
+    /// Adds a pointer for each line of a text after those that are asked for already; to a task that asks for none it
     /// adds nothing. A line feed ends a line, and the last line may do without. Nothing else is cut off a line.
     pub fn add_pointers(&mut self, alloc: Global, lines: &str) -> Result<(), AllocError>
         ensures piece { self.new.piece ≡ self.old.piece }

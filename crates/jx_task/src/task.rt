@@ -7,8 +7,8 @@ pub enum Task {
     Check,
     /// Whether it is one, and all its rows.
     Index,
-    /// What each of these pointers leads to in it (RFC 6901, section 4). A pointer stands here as it was spelt, also where
-    /// it is none.
+    /// The value of each of these pointers in it (RFC 6901, section 4). A pointer is here as it was given, also where
+    /// it is not one.
     At(Vec<String>),
     /// Which elements of a JSON text sequence are JSON texts (RFC 7464, section 2).
     Seq,

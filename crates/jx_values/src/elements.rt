@@ -9,7 +9,7 @@ ghost use Rattle.jx_values.specs.inside.Sought.{HasSought, any_names};
 use crate::sought::{Sought, pointers_of, seek, sought_at_start, told_of_elements, verdict_of};
 use crate::telling::{exit_by, tell};
 use jx_crew::{Crew, Gate};
-use jx_each::{Each, LineContent, nothing_is_due_of_no_byte, what_is_taken_is_due};
+use jx_each::{Each, LineContent, lines_due_of_no_byte, lines_taken_and_waiting};
 use jx_each_batch::feed_shared;
 use jx_ends::{Exit, ReportFault, Sink, Source, write_whole};
 use jx_run::Settings;
@@ -19,7 +19,7 @@ use std::thread::Threads;
 /// How many bytes are read at a time, at most. What is read is looked at before it leaves the processor's cache.
 const STEP: usize = 256 * 1024;
 
-/// The same where several workers share them.
+/// How many bytes are read at a time, at most, where several workers share them.
 const SHARED_STEP: usize = 4 * 1024 * 1024;
 
 /// Takes a batch after what was read, and writes the lines that are due then. It is also out of memory where the last
@@ -43,7 +43,7 @@ fn write_due<R: Threads + Wait + Sync, W: Sink, G: Gate + Sync>(
     ensures unread { IfErr result (λ fault. fault ≢ ReportFault.Read) }
     ensures uncut { IfErr result (λ fault. fault ≢ ReportFault.Pieces) }
 {
-    what_is_taken_is_due();
+    lines_taken_and_waiting();
     if batch.len() > usize::MAX - each.end() {
         return Err(ReportFault::Memory);
     }
@@ -84,7 +84,7 @@ fn write_all_due<R: Threads + Wait + Sync, S: Source, W: Sink, G: Gate + Sync>(
     ensures beginning { IsErrOf result ReportFault.Write → WroteInPart content each.old.reader.settings pointer.now (S.remaining reader.old) (S.remaining reader.new) (W.contents writer.old) (W.contents writer.new) }
     ensures uncut { IfErr result (λ fault. fault ≢ ReportFault.Pieces) }
 {
-    what_is_taken_is_due();
+    lines_taken_and_waiting();
     for _ in 0..u64::MAX {
         match reader.read(buffer) {
             Ok(0) => return Ok(()),
@@ -151,8 +151,8 @@ pub fn report_elements<R: Threads + Wait + Sync, S: Source, W: Sink, E: Sink, G:
         (W.contents writer.old) (W.contents writer.new) }
     ensures uncut { IfErr result (λ fault. fault ≢ ReportFault.Pieces) }
 {
-    nothing_is_due_of_no_byte();
-    what_is_taken_is_due();
+    lines_due_of_no_byte();
+    lines_taken_and_waiting();
     let alloc = crew.alloc;
     let mut each = Each::with_content(alloc, settings, pointer, content)?;
     let pointers = pointers_of(alloc, content, pointer)?;

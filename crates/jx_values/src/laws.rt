@@ -6,6 +6,6 @@ ghost use Rattle.jx_values.specs.Alike.{AreAlike};
 
 /// The compact form of a text is a text within the same depth. Its tree has the same kinds in the same order, and byte for byte the
 /// same scalars and names.
-pub fn compact_reads_alike()
+pub fn compact_tree()
     ensures { (bytes : List ℕ) (limit : ℕ) (tree : Tree) → IsDocument 0 bytes limit tree → (other : Tree) × IsDocument 0 (compact bytes) limit other × AreAlike bytes (compact bytes) tree other }
 {}

@@ -19,7 +19,7 @@ mod writing;
 
 pub use elements::report_elements;
 pub use form::Form;
-pub use laws::compact_reads_alike;
+pub use laws::compact_tree;
 pub use reporting::report_values;
 pub use telling::{add_told, exit_by, tell};
 pub use writing::write_values;

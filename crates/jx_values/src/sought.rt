@@ -35,7 +35,7 @@ fn told_of_kind(alloc: Global, kind: Kind, tokens: usize) -> Result<Vec<u8>, All
     }
 }
 
-/// The same where names are written: an object has some, and no other value.
+/// The report on such a text where names are written: an object has some, and no other value.
 fn told_of_named(alloc: Global, kind: Kind, tokens: usize) -> Result<Vec<u8>, AllocError>
     ensures { IfOk result (λ told. told.items ≡ told_of_named kind tokens) }
 {

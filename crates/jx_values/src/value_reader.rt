@@ -16,7 +16,7 @@ use crate::reply::{Held, Reply};
 use crate::sought::{first_of, one_pointer};
 use crate::telling::{add_told, told_of_refusal};
 use jx_find::Finder;
-use jx_index::{FindFault, Found, Met, look_ups_end_at_rows};
+use jx_index::{FindFault, Found, Met, rows_of_look_ups};
 use jx_lex::Span;
 use jx_run::{Refusal, Settings};
 use jx_words::PointerAnswer;
@@ -153,7 +153,7 @@ impl<'p> ValueReader<'p> {
         ensures { IfOk result (λ held. (task : ValuesTask) (text : List ℕ) → map string_bytes task.pointers.items ≡ pointer.now ∷ []
             → IsValueRead task.settings pointer.now text self.entry → IsHeldFor form task text held) }
     {
-        look_ups_end_at_rows();
+        rows_of_look_ups();
         let ValueReader {
             alloc,
             finder,

@@ -17,7 +17,7 @@ use Rattle.jx_wire.specs.Numbers.{number_of}
 abbrev pub is_blank : ℕ → Bool
 is_blank byte = byte == 0x20 || byte == 0x09
 
--- where the first byte stands that is no blank
+-- the offset of the first byte that is not white space
 abbrev pub first_ink : List ℕ → Option ℕ
 first_ink bytes = position (λ b. not (is_blank b)) bytes
 
@@ -33,15 +33,15 @@ abbrev pub length_from : Option ℕ → Result ℕ FrameFault
 length_from None = Err NoNumber
 length_from (Some n) = if nat_lt 1073741824 n then Err LongFrame else Ok n
 
--- where the first blank stands, or the end
+-- the offset of the first white space, or the end
 abbrev pub word_end : List ℕ → ℕ
 word_end bytes = unwrap_or (position is_blank bytes) (length bytes)
 
--- a word, with nothing but blanks behind it
+-- a word, with nothing but white space after it
 abbrev pub length_by_word : ℕ → List ℕ → Result ℕ FrameFault
 length_by_word end bytes = if list_all is_blank (drop end bytes) then length_from (number_of (take end bytes)) else Err NoNumber
 
--- decimal digits between blanks
+-- decimal digits with white space around them
 abbrev pub length_in : List ℕ → Result ℕ FrameFault
 length_in value = length_by_word (word_end (without_blanks value)) (without_blanks value)
 
@@ -61,7 +61,7 @@ field_of line =
 
 -- ---- a header
 
--- behind lines that give a length or none, by a field that gives one
+-- after lines that give a length or none, by a field that gives one
 abbrev pub head_with : Option ℕ → ℕ → Part
 head_with None n = Head (Some n)
 head_with (Some before) n = if before == n then Head (Some before) else Broken TwoLengths
@@ -75,11 +75,11 @@ behind_field given (Err fault) = Broken fault
 behind_field given (Ok None) = Head given
 behind_field given (Ok (Some n)) = head_with given n
 
--- behind a line that is not empty
+-- after a line that is not empty
 abbrev pub behind_line : Option ℕ → List ℕ → Part
 behind_line given line = if length line == 0 then end_of_head given else behind_field given (field_of line)
 
--- behind a line that a line feed ended: a carriage return stands last in it
+-- after a line that a line feed ended: a carriage return stands last in it
 abbrev pub part_behind : Option ℕ → List ℕ → Part
 part_behind given line = if slice_index line (length line - 1) == 0x0d then behind_line given (take (length line - 1) line) else Broken BareLineFeed
 

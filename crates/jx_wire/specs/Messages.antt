@@ -12,7 +12,7 @@ use Rattle.jx_wire.specs.declared.request_fault.RequestFault.TheVariants.{NoText
 abbrev pub wire_settings : Settings
 wire_settings = record { depth = 64; mark = mark.Refused; names = names.Unique }
 
--- a body is refused as no text by its verdict, and for another reason only if it is one
+-- a body is refused as not valid JSON by its verdict, and for another reason only if it is valid
 abbrev pub IsFaultOf : List ℕ → RequestFault → Type 0
 IsFaultOf body (NoText refusal) = IsVerdictBy wire_settings body (Refused refusal)
 IsFaultOf body (NoRequest id) = IsVerdictBy wire_settings body Accepted

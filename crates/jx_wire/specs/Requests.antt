@@ -33,12 +33,12 @@ abbrev pub text_in : Option ValueIn → Option (List ℕ)
 text_in None = None
 text_in (Some value) = text_by value.kind value.bytes
 
--- the number that decimal digits spell
+-- the number of decimal digits
 abbrev pub number_in : Option ValueIn → Option ℕ
 number_in None = None
 number_in (Some value) = number_by value.kind value.bytes
 
--- how a number is spelt
+-- the bytes of a number
 abbrev pub number_spelt : Option ValueIn → Option (List ℕ)
 number_spelt None = None
 number_spelt (Some value) = number_spelt_by value.kind value.bytes
@@ -48,12 +48,12 @@ abbrev pub flag_in : Option ValueIn → Option Bool
 flag_in None = Some false
 flag_in (Some value) = flag_by value.kind
 
--- whether a capability is told
+-- whether a capability is true
 abbrev pub is_true_in : Option ValueIn → Bool
 is_true_in None = false
 is_true_in (Some value) = is_true value.kind
 
--- how an id is spelt
+-- the bytes of an id
 abbrev pub id_in : Option ValueIn → Option (List ℕ)
 id_in None = None
 id_in (Some value) = id_by value.kind value.bytes
@@ -66,7 +66,7 @@ abbrev pub items_in : Option (Vec ℕ Global) → Option (List ℕ)
 items_in None = None
 items_in (Some bytes) = Some bytes.items
 
--- the elements of a list, each of which is told in its own way, from the one of a number on, in order
+-- the elements of a list, each of which is read in its own way, from the one of a number on, in order
 abbrev pub AreListed : {T : Type 0} → (Values → List ℕ → T → Type 0) → Values → (ℕ → List ℕ) → ℕ → List T → Type 0
 AreListed Is at pointer number [] = at (pointer number) ≡ None
 AreListed Is at pointer number (one ∷ others) = (at (pointer number) ≢ None) × Is at (pointer number) one × AreListed Is at pointer (number + 1) others
@@ -86,7 +86,7 @@ pub record IsVersioned (at : Values) (document : Versioned) : Type 0 where
 abbrev pub is_of_lines : List ℕ → Bool
 is_of_lines language = bytes_eq language (codes "jsonl") || bytes_eq language (codes "ndjson") || bytes_eq language (codes "jsonlines")
 
--- a language that is missing, or no string, is none of them
+-- false of a language that is missing, or no string
 abbrev pub has_lines : Option (List ℕ) → Bool
 has_lines None = false
 has_lines (Some language) = is_of_lines language
@@ -222,7 +222,7 @@ AsksForSelection at (call.Selection uri places) = IsSelection at uri places.item
 AsksForSelection at call.WrongParameters = (uri : Uri) (places : List Place) → IsSelection at uri places → ⊥
 AsksForSelection at _ = ⊥
 
--- what a request of a method calls for. A method of a notification is none that can be answered
+-- what a request of a method calls for. No method of a notification can be answered
 abbrev pub AsksFor : Values → Method → Call → Type 0
 AsksFor at method.Initialize asked = AsksToBegin at asked
 AsksFor at method.Shutdown asked = asked ≡ call.Shutdown
@@ -247,7 +247,7 @@ abbrev pub TellsClose : Values → Call → Type 0
 TellsClose at (call.Close uri) = IsUri at uri
 TellsClose at _ = ⊥
 
--- what a notification of a method tells
+-- what a notification of a method calls for
 abbrev pub TellsOf : Values → Method → Call → Type 0
 TellsOf at method.Exit told = told ≡ call.Exit
 TellsOf at method.Open told = TellsOpen at told
@@ -282,7 +282,7 @@ pub record IsRequest (at : Values) (request : Request) : Type 0 where
 
 -- ---- what is refused
 
--- no message; its id is told where it can be read
+-- no message; it has this id where an id can be read
 pub record IsNoMessage (at : Values) (told : Option (Vec ℕ Global)) : Type 0 where
   pub marked : items_in told ≡ id_in (at (codes "/id"))
   pub none : (id : Option (Vec ℕ Global)) (name : List ℕ) → IsMessage at id name → ⊥

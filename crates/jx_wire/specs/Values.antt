@@ -13,7 +13,7 @@ use Rattle.jx_wire.specs.Messages.{wire_settings}
 use Rattle.jx_wire.specs.Numbers.{number_of}
 use Rattle.jx_wire.specs.declared.message.Value.{Value}
 
--- what a value is, and the bytes that spell it
+-- what a value is, and its bytes
 pub record ValueIn : Type 0 where
   pub kind : Kind
   pub bytes : List ℕ
@@ -47,17 +47,17 @@ abbrev pub text_by : Kind → List ℕ → Option (List ℕ)
 text_by kind.String bytes = text_of bytes
 text_by _ bytes = None
 
--- the number that decimal digits spell
+-- the number of decimal digits
 abbrev pub number_by : Kind → List ℕ → Option ℕ
 number_by kind.Number bytes = number_of bytes
 number_by _ bytes = None
 
--- how a number is spelt
+-- the bytes of a number
 abbrev pub number_spelt_by : Kind → List ℕ → Option (List ℕ)
 number_spelt_by kind.Number bytes = Some bytes
 number_spelt_by _ bytes = None
 
--- how an id is spelt: a string or a number
+-- the bytes of an id: a string or a number
 abbrev pub id_by : Kind → List ℕ → Option (List ℕ)
 id_by kind.String bytes = Some bytes
 id_by kind.Number bytes = Some bytes

@@ -1,4 +1,4 @@
-/// A place in a text, as the protocol tells it: so many lines, and so many code units of the next one. Numbers above 2 to the 32
+/// A place in a text, as the protocol has it: so many lines, and so many code units of the next one. Numbers above 2 to the 32
 /// are that.
 #[derive(Clone, Copy, Debug, PartialEq, Eq)]
 pub struct Place {
@@ -24,9 +24,9 @@ pub enum Change {
 /// The name of a document.
 #[derive(Debug, Drop)]
 pub struct Uri {
-    /// What it stands for, in UTF-8.
+    /// The name that it stands for, in UTF-8.
     pub name: Vec<u8>,
-    /// How it is spelt in messages, with its quotation marks.
+    /// Its bytes as the message has them, with the quotation marks.
     pub spelt: Vec<u8>,
 }
 
@@ -34,11 +34,11 @@ pub struct Uri {
 #[derive(Debug, Drop)]
 pub struct Versioned {
     pub uri: Uri,
-    /// The number that spells the version, if there is one.
+    /// The bytes of the version's number, if there is one.
     pub version: Option<Vec<u8>>,
 }
 
-/// What a document is to be.
+/// The content of a document: one text, or JSON Lines.
 #[derive(Clone, Copy, Debug, PartialEq, Eq)]
 pub enum Content {
     /// One JSON text.
@@ -47,7 +47,7 @@ pub enum Content {
     Lines,
 }
 
-/// What a client asks for with `initialize`.
+/// The capabilities that a client offers with `initialize`.
 #[derive(Clone, Copy, Debug)]
 pub struct Offer {
     /// Whether it can count columns in bytes.
@@ -62,7 +62,7 @@ pub struct Offer {
     pub nested: bool,
 }
 
-/// What a message calls for.
+/// The call of a message.
 #[derive(Debug, Drop)]
 pub enum Call {
     Initialize(Offer),
@@ -101,7 +101,7 @@ pub enum Call {
 /// A message of the client. One with an id is a request, and has to be answered; one without is a notification.
 #[derive(Debug, Drop)]
 pub struct Request {
-    /// The string or the number that spells the id.
+    /// The bytes of the id, a string or a number.
     pub id: Option<Vec<u8>>,
     pub call: Call,
 }

@@ -34,7 +34,7 @@ fn text_of(alloc: Global, value: Option<Value>) -> Result<Option<Vec<u8>>, Alloc
     }
 }
 
-/// Whether a language is one of JSON Lines. None is none of them.
+/// Whether a language is one of JSON Lines; false where there is no language.
 fn has_lines(language: &Option<Vec<u8>>) -> bool
     ensures { result ≡ has_lines (items_in language.now) }
 {
@@ -53,7 +53,7 @@ fn ends_in(name: &[u8], ending: &[u8]) -> bool
         == ending
 }
 
-/// What a document is by its language and its name.
+/// The content of a document by its language and its name.
 fn content_by(language: &Option<Vec<u8>>, name: &[u8]) -> Content
     ensures { result ≡ content_by (items_in language.now) name.now }
 {
@@ -64,7 +64,7 @@ fn content_by(language: &Option<Vec<u8>>, name: &[u8]) -> Content
     }
 }
 
-/// What the document that a message opens is to be.
+/// The content of the document that a message opens.
 pub(crate) fn content_of(
     alloc: Global,
     message: &Message,

@@ -12,7 +12,7 @@ const GREATEST_BODY: usize = 1_073_741_824;
 /// The name of the field that gives the length of a body, with its colon, in lower case.
 const LENGTH_NAME: [u8; 15] = *b"content-length:";
 
-/// What some bytes leave of others.
+/// The bytes after the first so many.
 pub(crate) fn behind(bytes: &[u8], count: usize) -> &[u8]
     ensures { result.now ≡ drop count bytes.now }
 {
@@ -30,14 +30,14 @@ fn is_blank(byte: u8) -> bool
     byte == b' ' || byte == b'\t'
 }
 
-/// Where the first byte stands that is no blank.
+/// The offset of the first byte that is not white space.
 fn first_ink(bytes: &[u8]) -> Option<usize>
     ensures { result ≡ first_ink bytes.now }
 {
     bytes.iter().position(|byte| !is_blank(*byte))
 }
 
-/// The bytes behind the blanks in front.
+/// The bytes after the white space in front.
 fn without_blanks(bytes: &[u8]) -> &[u8]
     ensures { result.now ≡ without_blanks bytes.now }
 {
@@ -62,7 +62,7 @@ fn length_from(number: Option<usize>) -> Result<usize, FrameFault>
     }
 }
 
-/// Where the first blank stands, if there is one.
+/// The offset of the first white space, if there is any.
 fn first_blank(bytes: &[u8]) -> Option<usize>
     ensures first { result ≡ position is_blank bytes.now }
     ensures within { IfSome result (λ at. at < length bytes.now) }
@@ -70,14 +70,14 @@ fn first_blank(bytes: &[u8]) -> Option<usize>
     bytes.iter().position(|byte| is_blank(*byte))
 }
 
-/// Whether there is nothing but blanks.
+/// Whether there is nothing but white space.
 fn are_blanks(bytes: &[u8]) -> bool
     ensures { result ≡ list_all is_blank bytes.now }
 {
     bytes.iter().all(|byte| is_blank(*byte))
 }
 
-/// Where the first blank stands, or the end.
+/// The offset of the first white space, or the end.
 fn word_end(bytes: &[u8]) -> usize
     ensures end { result ≡ word_end bytes.now }
     ensures within { result ≤ length bytes.now }
@@ -88,7 +88,7 @@ fn word_end(bytes: &[u8]) -> usize
     }
 }
 
-/// The length that a word gives which ends there. Nothing but blanks may stand behind it.
+/// The length in decimal digits up to this end. Nothing but white space may follow it.
 fn length_by_word(end: usize, bytes: &[u8]) -> Result<usize, FrameFault>
     requires { end ≤ length bytes.now }
     ensures { result ≡ length_by_word end bytes.now }
@@ -101,7 +101,7 @@ fn length_by_word(end: usize, bytes: &[u8]) -> Result<usize, FrameFault>
     }
 }
 
-/// The length that the value of a field gives: decimal digits between blanks.
+/// The length that the value of a field gives: decimal digits with white space around them.
 fn length_in(value: &[u8]) -> Result<usize, FrameFault>
     ensures { result ≡ length_in value.now }
 {

@@ -14,7 +14,7 @@ const LONGEST_LINE: usize = 1024;
 /// In which part of a frame a reader stands.
 #[derive(Clone, Copy, Debug, PartialEq, Eq)]
 pub enum Part {
-    /// In a line of the header, behind lines that give this length.
+    /// In a line of the header, after lines that give this length.
     Head { length: Option<usize> },
     /// In the body, of which so many bytes are missing.
     Body { missing: usize },
@@ -22,7 +22,7 @@ pub enum Part {
     Broken { fault: FrameFault },
 }
 
-/// What became of some bytes.
+/// The result of reading some bytes.
 #[derive(Debug, Drop)]
 pub struct Fed {
     /// How many of them were read.
@@ -120,8 +120,8 @@ impl FrameReader {
         }
     }
 
-    /// Reads a beginning of the bytes: at most up to the end of a body. Behind a fault all bytes are passed over. Where memory
-    /// is refused nothing is read.
+    /// Reads a beginning of the bytes: at most up to the end of a body. After a fault all bytes are skipped. When out of
+    /// memory nothing is read.
     pub fn feed(&mut self, bytes: &[u8]) -> Result<Fed, AllocError>
         ensures within { IfOk result (λ fed. fed.taken ≤ length bytes.now) }
         ensures progress { IfOk result (λ fed. 0 < length bytes.now → 0 < fed.taken) }

@@ -22,7 +22,7 @@ pub use call::{Call, Change, Content, Offer, Place, Request, Uri, Versioned};
 pub use frame_fault::FrameFault;
 pub use frame_reader::{Fed, FrameReader, Part};
 pub use jx_string::{StringFault, unescaped};
-pub use laws::{bytes_may_be_cut_anywhere, frames_are_read_back};
+pub use laws::{frame_round_trip, frames_of_two_parts};
 pub use message::{Message, Value};
 pub use number::number_of;
 pub use quoting::quoted;

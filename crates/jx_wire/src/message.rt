@@ -14,8 +14,8 @@ ghost use Rattle.jx_wire.specs.inside.Spelt.{IsSpelt};
 use crate::members::{bytes_at, kind_of, member_of, row_of};
 use crate::number::number_of;
 use jx_index::{
-    Children, Indexed, NodeId, Pointer, TextAnswer, look_ups_end_at_rows, readings_are_forms,
-    unique_names_are_met_once,
+    Children, Indexed, NodeId, Pointer, TextAnswer, look_ups_with_unique_names, rows_of_look_ups,
+    strings_pointers_and_rows,
 };
 use jx_lex::{Depth, Kind};
 use jx_run::{FrontMark, NameRule, Refusal, Settings};
@@ -58,8 +58,8 @@ fn wire_settings() -> Settings
 }
 
 impl<'a> Message<'a> {
-    /// Reads the body of a frame as a JSON text (RFC 8259) within a depth of 64, whose objects repeat no name. `Err` where
-    /// memory is refused.
+    /// Reads the body of a frame as a JSON text (RFC 8259) within a depth of 64, whose objects repeat no name. `Err` when out of
+    /// memory.
     pub fn read(alloc: Global, body: &'a [u8]) -> Result<Result<Message<'a>, Refusal>, AllocError>
         ensures same { IfOk result (λ read. IfOk read (λ message. message ≡ body.now)) }
         ensures read { IfOk result (λ read. IfOk read (λ _. IsVerdictBy wire_settings body.now Accepted)) }
@@ -95,7 +95,7 @@ impl<'a> Message<'a> {
         ensures at { (pointer : List ℕ) → IsAt self.now pointer node.now → Says self.now (λ at. at pointer ≡ seen result) }
         ensures spelt { IfSome result IsSpelt }
     {
-        look_ups_end_at_rows();
+        rows_of_look_ups();
         let row = row_of(self.index.rows(), node)?;
         Some(Value {
             kind: row.kind,
@@ -107,7 +107,7 @@ impl<'a> Message<'a> {
     pub(crate) fn member(&self, node: &Option<NodeId>, name: &str) -> Option<NodeId>
         ensures { is_word name.now ≡ true → (pointer : List ℕ) → IsAt self.now pointer node.now → IsAt self.now (pointer ++ 0x2f ∷ name.now) result }
     {
-        unique_names_are_met_once();
+        look_ups_with_unique_names();
         let _rows = self.index.rows();
         let node = (*node)?;
         member_of(&self.index, node, name)
@@ -138,7 +138,7 @@ impl<'a> Message<'a> {
             → IsAt self.now (pointer ++ 0x2f ∷ decimal number) (slice_get elements number)) }
         ensures few { IfSome result (λ elements. length elements < 2 ^ 64) }
     {
-        look_ups_end_at_rows();
+        rows_of_look_ups();
         let node = (*node)?;
         match kind_of(self.index.rows(), node) {
             Kind::Array => Some(self.index.children(node)),
@@ -150,9 +150,9 @@ impl<'a> Message<'a> {
 /// A value of a message.
 #[derive(Clone, Copy, Debug)]
 pub struct Value<'a> {
-    /// What it is.
+    /// Its kind.
     pub kind: Kind,
-    /// The bytes that spell it.
+    /// Its bytes in the body.
     pub bytes: &'a [u8],
 }
 
@@ -164,7 +164,7 @@ impl<'a> Value<'a> {
         ensures lone { IsSpelt self.now → IsErrOf result LoneSurrogate → self.now.kind ≡ String }
         ensures no { IsSpelt self.now → IsErrOf result NoString → self.now.kind ≢ String }
     {
-        readings_are_forms();
+        strings_pointers_and_rows();
         match self.kind {
             Kind::String => unescaped(alloc, self.bytes),
             _ => Err(StringFault::NoString),
@@ -183,7 +183,7 @@ impl<'a> Value<'a> {
         }
     }
 
-    /// The number that decimal digits spell, or 2 to the 32 where it is greater; none of another value, or of a number with a
+    /// The number of its decimal digits, or 2 to the 32 where it is greater; none of another value, or of a number with a
     /// sign, a fraction or an exponent.
     pub fn number(&self) -> Option<usize>
         ensures { result ≡ number_by self.now.kind self.now.bytes.now }

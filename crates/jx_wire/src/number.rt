@@ -5,7 +5,7 @@ ghost use Rattle.jx_wire.specs.Numbers.{number_of};
 /// Greater numbers are read as this one.
 const GREATEST: usize = 4_294_967_296;
 
-/// The number that decimal digits spell, or 2 to the 32 where it is greater; none where the bytes are no such digits.
+/// The number of these decimal digits, or 2 to the 32 where it is greater; none where the bytes are no such digits.
 pub fn number_of(digits: &[u8]) -> Option<usize>
     ensures { result ≡ number_of digits.now }
 {

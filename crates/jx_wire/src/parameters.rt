@@ -23,7 +23,7 @@ use std::alloc::{AllocError, Global};
 pub(crate) enum ParameterFault {
     /// One is missing or of a wrong kind.
     Wrong,
-    /// A growth of memory was refused.
+    /// An allocation failed.
     Memory,
 }
 
@@ -105,7 +105,7 @@ pub(crate) fn versioned_of(
     Ok(Versioned { uri, version })
 }
 
-/// A text that stands in the place of all bytes, where a string spells it.
+/// The change that puts a text in the place of all bytes, where the value is a string.
 pub(crate) fn whole_of(alloc: Global, value: Option<Value>) -> Result<Change, ParameterFault>
     ensures ok { IfSome value.entry IsSpelt → IfOk result (IsWhole (seen value.entry)) }
     ensures wrong { IfSome value.entry IsSpelt → IsErrOf result ParameterFault.Wrong → (change : Change) → IsWhole (seen value.entry) change → ⊥ }
@@ -129,7 +129,7 @@ fn number_in(message: &Message, node: &Option<NodeId>, name: &str) -> Option<usi
     message.value_in(node, name)?.number()
 }
 
-/// The place that a node tells.
+/// The place in a node, if it has one.
 pub(crate) fn place_at(message: &Message, node: &Option<NodeId>) -> Option<Place>
     ensures some { (pointer : List ℕ) → IsAt message.now pointer node.now → IfSome result (λ place. Says message.now (λ at. IsPlace at pointer place)) }
     ensures none { (pointer : List ℕ) → IsAt message.now pointer node.now → result ≡ None → Says message.now (λ at. (place : Place) → IsPlace at pointer place → ⊥) }
@@ -161,7 +161,7 @@ fn ranged(whole: Change, start: Place, end: Place) -> Change
     }
 }
 
-/// The change that a node tells.
+/// The change in a node.
 fn change_at(
     alloc: Global,
     message: &Message,
@@ -182,7 +182,7 @@ fn change_at(
     Ok(ranged(whole, start, end))
 }
 
-/// Adds an element behind others.
+/// Adds an element after others.
 pub(crate) fn add<T: Drop>(list: &mut Vec<T>, element: T) -> Result<(), AllocError>
     ensures { OnOk result (list.new.items ≡ list.old.items ++ element ∷ []) }
 {
@@ -241,7 +241,7 @@ fn depth_of(message: &Message, options: &Option<NodeId>) -> Result<Option<usize>
     }
 }
 
-/// Whether the client can count columns in bytes. An object may tell its encodings by the names of their numbers, so that they are
+/// Whether the client can count columns in bytes. An object may list its encodings with numbers for names, so that they are
 /// asked for by pointers.
 fn counts_bytes(alloc: Global, message: &Message) -> Result<bool, AllocError>
     ensures { IfOk result (λ utf8. Says message.now (λ at. Offers at 0 utf8)) }
@@ -259,7 +259,7 @@ fn counts_bytes(alloc: Global, message: &Message) -> Result<bool, AllocError>
     Err(AllocError)
 }
 
-/// Whether a capability is told: it is `true`.
+/// Whether a capability is `true`.
 fn is_true(message: &Message, node: &Option<NodeId>, name: &str) -> bool
     ensures { is_word name.now ≡ true → (pointer : List ℕ) → IsAt message.now pointer node.now
         → Says message.now (λ at. is_true_in (at (pointer ++ 0x2f ∷ name.now)) ≡ result) }
@@ -273,7 +273,7 @@ fn is_true(message: &Message, node: &Option<NodeId>, name: &str) -> bool
     }
 }
 
-/// Whether a client tells that it can show symbols in symbols.
+/// Whether a client can show symbols in symbols.
 fn shows_nested(message: &Message, params: &Option<NodeId>) -> bool
     requires { IsAt message.now (codes "/params") params.now }
     ensures { Says message.now (λ at. is_true_in (at (codes "/params/capabilities/textDocument/documentSymbol/hierarchicalDocumentSymbolSupport")) ≡ result) }
@@ -284,7 +284,7 @@ fn shows_nested(message: &Message, params: &Option<NodeId>) -> bool
     is_true(message, &symbols, "hierarchicalDocumentSymbolSupport")
 }
 
-/// What a client asks for with `initialize`.
+/// The capabilities that a client offers with `initialize`.
 pub(crate) fn offer_of(
     alloc: Global,
     message: &Message,

@@ -23,7 +23,7 @@ use jx_lex::Kind;
 use jx_string::StringFault;
 use std::alloc::{AllocError, Global};
 
-/// The id of a message, as it is spelt; none for a notification. `Err` where it is neither a string nor a number.
+/// The id of a message, as its bytes; none for a notification. `Err` where it is neither a string nor a number.
 fn id_of(alloc: Global, message: &Message) -> Result<Option<Vec<u8>>, RequestFault>
     ensures ok { IfOk result (λ id. Says message.now (λ at. IsId (at (codes "/id")) id)) }
     ensures why { IfErr result (λ fault. Says message.now (λ at. IsRefusedFor at fault)) }
@@ -52,7 +52,7 @@ fn is_of_protocol(alloc: Global, message: &Message) -> Result<bool, AllocError>
     }
 }
 
-/// What the method of a message is named; none where it has none.
+/// The method of a message; none where it has none.
 fn method_in(alloc: Global, message: &Message) -> Result<Option<Vec<u8>>, AllocError>
     ensures some { IfOk result (λ name. IfSome name (λ name. Says message.now (λ at. text_in (at (codes "/method")) ≡ Some name.items))) }
     ensures none { IfOk result (λ name. name ≡ None → Says message.now (λ at. text_in (at (codes "/method")) ≡ None)) }
@@ -78,7 +78,7 @@ fn name_of(alloc: Global, message: &Message) -> Result<Option<Vec<u8>>, AllocErr
     method_in(alloc, message)
 }
 
-/// What a request calls for. One about a document is answered by how far the client has come, even where its parameters are wrong.
+/// The call of a request. One about a document is answered by how far the client has come, even where its parameters are wrong.
 fn request_call(
     alloc: Global,
     message: &Message,
@@ -188,7 +188,7 @@ fn change_call(
     Ok(Call::Change { document, changes })
 }
 
-/// What a notification calls for.
+/// The call of a notification.
 fn notification_call(
     alloc: Global,
     message: &Message,
@@ -217,7 +217,7 @@ fn notification_call(
     }
 }
 
-/// What a message with this id and this method calls for.
+/// The call of a message with this id and this method.
 fn call_of(
     alloc: Global,
     message: &Message,
@@ -235,7 +235,7 @@ fn call_of(
     }
 }
 
-/// What the body of a frame calls for: a JSON text within a depth of 64 that repeats no name, and has a method.
+/// The request in the body of a frame: a JSON text within a depth of 64 that repeats no name, and has a method.
 pub fn request_of(alloc: Global, body: &[u8]) -> Result<Request, RequestFault>
     ensures text { IfOk result (λ _. IsVerdictBy wire_settings body.now Accepted) }
     // What the request is, by the values to which pointers lead in the body's tree.

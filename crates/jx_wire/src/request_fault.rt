@@ -17,7 +17,7 @@ pub enum RequestFault {
     /// Its parameters are missing, or of a wrong kind. It has this id, or is a notification.
     #[error("wrong parameters")]
     WrongParameters { id: Option<Vec<u8>> },
-    /// A growth of memory was refused.
+    /// An allocation failed.
     #[error("out of memory")]
     Memory,
 }

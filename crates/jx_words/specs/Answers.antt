@@ -1,4 +1,4 @@
--- What pointers come to in a text by settings (RFC 6901), or why it is refused.
+-- The answers to pointers in a text by settings (RFC 6901), or why it is refused.
 use Rattle.std.specs.Prelude.{ℕ, List, Result, Ok, Err, Vec}
 use Rattle.std.specs.List.{AllZip}
 use Rattle.std.specs.declared.alloc.Global.{Global}
@@ -11,7 +11,7 @@ use Rattle.jx_index.specs.ByNames.{IsVerdictBy}
 use Rattle.jx_words.specs.declared.pointer_answer.PointerAnswer.{PointerAnswer}
 use Rattle.jx_words.specs.Pointers.{IsAnswerTo}
 
--- these are what the pointers, in order, come to in its tree
+-- these are the answers to the pointers, in order, in its tree
 pub record AreAnswersIn (settings : Settings) (text : List ℕ) (pointers : List (List ℕ)) (answers : List PointerAnswer) : Type 0 where
   pub tree : Tree
   pub is_text : IsDocumentBy settings 0 text tree

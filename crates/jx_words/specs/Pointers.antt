@@ -1,4 +1,4 @@
--- What pointers come to in a text (RFC 6901), and the lines that are written for them.
+-- The answers to pointers in a text (RFC 6901), and the lines that are written for them.
 use Rattle.std.specs.Prelude.{◌≡◌, ℕ, List, [], ◌∷◌, ◌++◌, Some, Ok, Err, codes, decimal, slice_get}
 use Rattle.jx_lex.specs.declared.kind.Kind.{Kind}
 use Rattle.jx_summary.specs.declared.span.Span.{Span}
@@ -26,7 +26,7 @@ pub record LeadsTo (text : List ℕ) (tree : Tree) (pointer : List ℕ) (kind : 
   pub kind_is : row.kind ≡ kind
   pub span_is : row.span ≡ span
 
--- what a pointer comes to in a text with this tree
+-- the answer to a pointer in a text with this tree
 abbrev pub IsAnswerTo : List ℕ → Tree → List ℕ → PointerAnswer → Type 0
 IsAnswerTo text tree pointer (Found kind span) = LeadsTo text tree pointer kind span
 IsAnswerTo text tree pointer (Unread fault) = IsFaultOf pointer fault

@@ -1,5 +1,5 @@
-//! The words of reports: the line of a refusal, and strings that are read as pointers (RFC 6901) with the line of what each
-//! comes to.
+//! The words of reports: the line of a refusal, and strings that are read as pointers (RFC 6901) with the line of each
+//! answer.
 #![tactic(auto)]
 
 mod pointer_answer;

@@ -10,7 +10,7 @@ use jx_index::{FindFault, Found, Pointer, PointerFault};
 use jx_lex::{Kind, Span};
 use std::alloc::{AllocError, Global};
 
-/// What a pointer comes to in a text.
+/// The answer to a pointer in a text.
 #[derive(Clone, Copy, Debug, PartialEq, Eq)]
 pub enum PointerAnswer {
     /// It leads to a value of this kind, with this span.
@@ -21,7 +21,7 @@ pub enum PointerAnswer {
     Lost(FindFault),
 }
 
-/// A string that is read as a pointer: the pointer, or that of the whole text and why the string is none.
+/// A string that is read as a pointer: the pointer, or that of the whole text and why the string is not a pointer.
 #[derive(Debug, Drop)]
 pub struct ReadPointer<'p> {
     pub pointer: Pointer<'p>,
@@ -44,7 +44,7 @@ pub fn read_pointer(spelt: &str) -> ReadPointer<'_>
     }
 }
 
-/// What a string that was read as a pointer comes to in a text that was read once: why it is none, or what was found.
+/// The answer to a string in a text that was read once: why it is not a pointer, or what was found.
 fn answer_in(unread: Option<PointerFault>, found: Result<Found, FindFault>) -> PointerAnswer
     ensures { result ≡ answer_in unread found }
 {
@@ -60,8 +60,8 @@ fn answer_in(unread: Option<PointerFault>, found: Result<Found, FindFault>) -> P
     }
 }
 
-/// Strings that are read as pointers, in their order: the pointers, with that of the whole text for each string that spells
-/// none, and why those spell none.
+/// Strings that are read as pointers, in their order: the pointers, with that of the whole text for each string that is not a
+/// pointer, and why those are not.
 #[derive(Debug, Drop)]
 pub struct ReadPointers<'p> {
     pub pointers: Vec<Pointer<'p>>,
@@ -82,7 +82,7 @@ pub fn read_pointers<'p>(alloc: Global, spelt: &'p [String]) -> Result<ReadPoint
     Ok(ReadPointers { pointers, unread })
 }
 
-/// What strings that were read as pointers come to in a text that was read once, in their order.
+/// The answers to strings that were read as pointers, in their order, in a text that was read once.
 pub fn answers_in(
     alloc: Global,
     unread: &[Option<PointerFault>],

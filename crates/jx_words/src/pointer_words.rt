@@ -1,4 +1,4 @@
-// The words that stand for what pointers come to.
+// The words for the answers to pointers.
 ghost use Rattle.std.specs.Prelude.{◌≡◌, ◌++◌};
 ghost use Rattle.jx_words.specs.Pointers.{answer_words};
 ghost use Rattle.jx_words.specs.inside.Room.{HasRoom, TakesRoom};

@@ -1,4 +1,4 @@
-// Words and lines that are told of a text or of a pointer, in memory that grows.
+// Words and lines of reports on a text or a pointer, in memory that grows.
 ghost use Rattle.std.specs.Prelude.{◌≡◌, ◌++◌, decimal, OnOk};
 ghost use Rattle.jx_words.specs.Pointers.{answer_words};
 ghost use Rattle.jx_words.specs.Words.{line, refusal_words, span_words};

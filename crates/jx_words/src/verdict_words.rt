@@ -1,4 +1,4 @@
-// The line of a verdict on a text, and how the program ends behind it.
+// The line of a verdict on a text, and how the program ends after it.
 ghost use Rattle.std.specs.Prelude.{◌≡◌, ◌≢◌, ◌↔◌, ◌++◌, ℕ, List, false, true, IfErr, IfOk, IsErrOf, OnOk};
 ghost use Rattle.std.specs.Io.KnownBytes.{Appends};
 ghost use Rattle.jx_ends.specs.Ends.{AppendsBeginning};
@@ -53,7 +53,7 @@ fn write_line<W: Sink>(alloc: Global, writer: &mut W, verdict: Verdict) -> Resul
     write_whole(writer, &line)
 }
 
-/// The same, or nothing where it is quiet, and the exit.
+/// Writes the line of a verdict, or nothing where it is quiet, and returns the status.
 fn show_verdict<W: Sink>(
     alloc: Global,
     writer: &mut W,

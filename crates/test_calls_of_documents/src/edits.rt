@@ -1,4 +1,4 @@
-// What is told of a document behind each of its edits.
+// The answers of a document after each of its edits.
 use jx_edit::{Document, DocumentFault};
 use std::alloc::{AllocError, Global};
 use std::thread::Threads;
@@ -12,7 +12,7 @@ struct Edit {
     replacement: Vec<u8>,
 }
 
-/// The edit that a word spells as `S..E=TEXT`. Its end may lie anywhere.
+/// The edit in a word, `S..E=TEXT`. Its end may lie anywhere.
 fn edit_of(alloc: Global, word: &str) -> Result<Edit, LineFault> {
     let (range, text) = word.split_once("=").ok_or(LineFault::NoSuchCall)?;
     let (start, end) = range.split_once("..").ok_or(LineFault::NoSuchCall)?;
@@ -25,7 +25,7 @@ fn edit_of(alloc: Global, word: &str) -> Result<Edit, LineFault> {
     })
 }
 
-/// The bytes of a document, piece by piece.
+/// The bytes of a document, chunk by chunk.
 fn pieces_of(alloc: Global, document: &Document) -> Result<Vec<u8>, AllocError> {
     let mut bytes = Vec::new(alloc);
     for piece in document.chunks() {
@@ -34,7 +34,7 @@ fn pieces_of(alloc: Global, document: &Document) -> Result<Vec<u8>, AllocError> 
     Ok(bytes)
 }
 
-/// Whether each of these bytes is the first one that the document has from its offset on, and none stands behind them.
+/// Whether each of these bytes is the first one that the document has from its offset on, and none follows them.
 fn is_at_each(document: &Document, bytes: &[u8]) -> bool {
     for offset in 0..bytes.len() {
         match document.chunk_at(offset) {
@@ -49,7 +49,7 @@ fn is_at_each(document: &Document, bytes: &[u8]) -> bool {
     document.chunk_at(bytes.len()).is_empty()
 }
 
-/// Tells the verdict and the bytes, or that they are not told alike by each way.
+/// Writes the verdict and the bytes, or that the ways to get them differ.
 fn push_state(out: &mut Out, alloc: Global, document: &mut Document) -> Result<(), AllocError> {
     push_verdict(out, document.verdict()?);
     let bytes = pieces_of(alloc, document)?;
@@ -77,7 +77,7 @@ fn made_or_told(out: &mut Out, made: Result<Document, DocumentFault>) -> Option<
     }
 }
 
-/// Makes the edit that the next word spells, and tells a refusal.
+/// Makes the edit in the next word, and writes a refusal.
 fn push_edit(line: &mut Line<'_>, document: &mut Document) {
     match edit_of(line.alloc, line.word()) {
         Ok(edit) => {
@@ -89,7 +89,7 @@ fn push_edit(line: &mut Line<'_>, document: &mut Document) {
     }
 }
 
-/// `document DEPTH SETTINGS TEXT EDIT..`: the verdict and the bytes, behind no edit and behind each of them.
+/// `document DEPTH SETTINGS TEXT EDIT..`: the verdict and the bytes, after no edit and after each of them.
 pub(crate) fn document(line: &mut Line<'_>) {
     let depth = line.depth();
     let settings = line.settings(depth);

@@ -3,7 +3,7 @@ use jx_edit::{Document, Encoding, Position};
 use jx_lex::Depth;
 use test_words::{Line, LineFault, number_of};
 
-/// The encoding of this name, as the protocol spells it.
+/// The encoding of this name, as the protocol writes it.
 fn next_encoding(line: &mut Line<'_>) -> Encoding {
     match line.word() {
         "utf-8" => Encoding::Utf8,
@@ -15,7 +15,7 @@ fn next_encoding(line: &mut Line<'_>) -> Encoding {
     }
 }
 
-/// The position that a word spells as `LINE:CHARACTER`.
+/// The position in a word, `LINE:CHARACTER`.
 fn position_of(word: &str) -> Result<Position, LineFault> {
     let (line, character) = word.split_once(":").ok_or(LineFault::NoSuchCall)?;
     Ok(Position {

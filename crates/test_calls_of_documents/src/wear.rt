@@ -1,11 +1,11 @@
-// How many pieces a document has behind many edits.
+// How many chunks a document has after many edits.
 use jx_edit::Document;
 use jx_lex::Depth;
 use jx_run::Settings;
 use std::alloc::Global;
 use test_words::{Line, LineFault, Out};
 
-/// A piece has this many bytes where a document is made, and less than twice as many.
+/// A chunk has this many bytes where a document is made, and less than twice as many.
 const USUAL: usize = 32768;
 
 /// The next number of a row that looks random (xorshift).
@@ -26,7 +26,7 @@ struct Wear {
     taken: usize,
 }
 
-/// The document of so many digits, behind these edits at places that look random.
+/// The document of so many digits, after these edits at places that look random.
 fn worn_by(alloc: Global, wear: Wear) -> Result<Document, LineFault> {
     let settings = Settings::from(Depth::default());
     let text = vec![in alloc; b'1'; wear.len]?;
@@ -47,12 +47,12 @@ fn worn_by(alloc: Global, wear: Wear) -> Result<Document, LineFault> {
     Ok(document)
 }
 
-/// How many pieces a document has.
+/// How many chunks a document has.
 fn count_of(document: &Document) -> usize {
     document.chunks().count()
 }
 
-/// `worn LEN TIMES PUT TAKEN`: how long a document of LEN bytes is behind so many edits, and whether it has about as many pieces
+/// `worn LEN TIMES PUT TAKEN`: how long a document of LEN bytes is after so many edits, and whether it has about as many chunks
 /// as one that is made of as many bytes: at most twice as many and two, and at least half as many.
 pub(crate) fn worn(line: &mut Line<'_>) {
     let wear = Wear {

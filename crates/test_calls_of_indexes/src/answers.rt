@@ -1,6 +1,7 @@
 // The bytes of the index of a text that is fed by slices, and what bytes say.
+use jx_file_build::Indexer;
+use jx_file_index::{ChunkSize, Entry, Index};
 use jx_run::{NameRule, Settings, Verdict};
-use jx_saved::{ChunkSize, Entry, Index, Indexer};
 use std::alloc::{AllocError, Global};
 use test_words::{Out, push_verdict};
 
@@ -14,7 +15,7 @@ fn push_index(out: &mut Out, alloc: Global, index: &Index) -> Result<(), AllocEr
     Ok(())
 }
 
-/// The index of a text that is fed by these slices, one behind another, or why it has none.
+/// The index of a text that is fed by these slices, one after another, or why it has none.
 pub(crate) fn told_by(
     alloc: Global,
     settings: &Settings,

@@ -1,11 +1,11 @@
-// The calls of `jx_saved`.
+// The calls of `jx_file_index` and `jx_file_build`.
 use crate::answers::{push_loaded, told_by};
-use jx_saved::{ChunkSize, Index, SavedFault, digest_of};
+use jx_file_index::{ChunkSize, Index, SavedFault, digest_of};
 use std::alloc::AllocError;
 use test_words::{Line, Ways};
 
 /// `save DEPTH SETTINGS CHUNK TEXT`: the bytes of a text's index, for chunks of so many bytes, or why it has none; whole, and by slices of
-/// several sizes. Names are of no account.
+/// several sizes. Names are ignored.
 fn save(line: &mut Line<'_>) {
     let depth = line.depth();
     let settings = line.settings(depth);

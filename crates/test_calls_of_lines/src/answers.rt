@@ -20,7 +20,7 @@ fn push_line(out: &mut Out, judged: JudgedLine) {
     }
 }
 
-/// Feeds a slice, and tells the lines that end in it. Each step but one takes a byte at least.
+/// Feeds a slice, and writes the lines that end in it. Each step but one takes a byte at least.
 fn feed(out: &mut Out, reader: &mut LineReader, slice: &[u8]) -> Result<(), AllocError> {
     let mut rest = slice;
     for _ in 0..=slice.len() {
@@ -35,7 +35,7 @@ fn feed(out: &mut Out, reader: &mut LineReader, slice: &[u8]) -> Result<(), Allo
     Ok(())
 }
 
-/// The answers on a text that is fed by these slices, one behind another.
+/// The answers on a text that is fed by these slices, one after another.
 pub(crate) fn told_by(
     alloc: Global,
     settings: &Settings,

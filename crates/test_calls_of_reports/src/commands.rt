@@ -1,11 +1,11 @@
-// What words of the command line are.
+// What arguments ask for.
 use jx_command::{ArgFault, Order, Request, ValuesOrder, command_of};
 use jx_task::Command;
 use std::alloc::{AllocError, Global};
 use test_orders::{push_order, push_pointers, push_task};
 use test_words::{Line, LineFault, Out, text_of};
 
-/// The text that a word spells. `''` is the empty word.
+/// The text in a word. `''` is the empty word.
 fn owned_of(alloc: Global, word: &str) -> Result<String, LineFault> {
     if word == "''" {
         return Ok(String::new(alloc));
@@ -28,21 +28,37 @@ fn all_of(line: &mut Line<'_>) -> Result<Vec<String>, LineFault> {
     Ok(owned)
 }
 
-/// The words as they are told to the program.
+/// The words as the program gets them.
 fn words_of(alloc: Global, owned: &[String]) -> Result<Vec<&str>, AllocError> {
     owned.iter().map(|word| word.as_str()).collect(alloc)
 }
 
-/// `command WORD..`: all that the words ask for, or what is said of them in one line, and a tip behind it if one is given.
+/// How many processors may be used, unless a line says so.
+const PROCESSORS: usize = 4;
+
+/// `command WORD..`: all that the words ask for, or what is said of them in one line, and a tip after it if one is given.
 pub fn command(line: &mut Line<'_>) {
     let owned = owned(line);
-    let told = push_command(&mut line.out, line.alloc, &owned);
+    let told = push_command(&mut line.out, line.alloc, &owned, PROCESSORS);
     line.settle(told);
 }
 
-fn push_command(out: &mut Out, alloc: Global, owned: &[String]) -> Result<(), AllocError> {
+/// `command_on N WORD..`: the same where N processors may be used.
+pub fn command_on(line: &mut Line<'_>) {
+    let processors = line.number();
+    let owned = owned(line);
+    let told = push_command(&mut line.out, line.alloc, &owned, processors);
+    line.settle(told);
+}
+
+fn push_command(
+    out: &mut Out,
+    alloc: Global,
+    owned: &[String],
+    processors: usize,
+) -> Result<(), AllocError> {
     let words = words_of(alloc, owned)?;
-    match command_of(alloc, &words) {
+    match command_of(alloc, &words, processors) {
         Ok(order) => push_order(out, &order),
         Err(fault) => push_fault(out, alloc, &fault)?,
     }
@@ -65,7 +81,7 @@ fn push_lines(
     owned: &[String],
 ) -> Result<(), AllocError> {
     let words = words_of(alloc, owned)?;
-    match command_of(alloc, &words) {
+    match command_of(alloc, &words, PROCESSORS) {
         Ok(Order::Report(request)) => push_task(out, &command_with(alloc, request, lines)?.task),
         Ok(Order::Values(order)) => {
             let ValuesOrder { mut task, .. } = order;

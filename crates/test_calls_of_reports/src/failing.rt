@@ -38,10 +38,10 @@ impl Failures {
     }
 }
 
-/// `ends TASK OPTIONS TEXT [POINTER..]`: what a report comes to whose ends do not fail, and how many reports failed: of those whose
+/// `ends TASK OPTIONS TEXT [POINTER..]`: what a report gives whose ends do not fail, and how many reports failed: of those whose
 /// reader, which gives a byte a call, fails at each call in turn by each of two kinds of error, and of those whose writer, which
-/// takes one byte a call or three, fails or takes no byte at each call in turn. Behind a read fault nothing has to be written, and
-/// behind a write fault what the calls before have taken.
+/// takes one byte a call or three, fails or takes no byte at each call in turn. After a read fault nothing has to be written, and
+/// after a write fault what the calls before have taken.
 pub fn ends<R: Threads + Wait + Sync>(line: &mut Line<'_>, rt: &R) {
     let Some(mut asked) = next_asked(line) else {
         return;

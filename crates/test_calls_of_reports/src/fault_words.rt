@@ -7,7 +7,7 @@ use std::alloc::AllocError;
 use test_examples::ExampleFault;
 use test_words::{Line, Out};
 
-/// `words FAULTS`: how the faults of reports, of words of the command line or of the examples show.
+/// `words FAULTS`: the messages of faults of reports, of arguments or of the examples.
 pub fn words(line: &mut Line<'_>) {
     match line.word() {
         "reports" => push_report_faults(&mut line.out),

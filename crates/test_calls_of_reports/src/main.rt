@@ -1,5 +1,5 @@
 // The program `test_calls_of_reports`: makes the calls that the lines of its input name, and prints what each answers, on the line
-// of the same number. The calls are those of reports, of the words of the command line and of the examples. An empty line and one
+// of the same number. The calls are those of reports, of arguments and of the examples. An empty line and one
 // that begins with `#` are printed as they stand.
 #![tactic(auto)]
 
@@ -24,6 +24,7 @@ fn make<R: Threads + Wait + Sync>(line: &mut Line<'_>, rt: &R) {
         "report" => reports::report(line, rt),
         "ends" => failing::ends(line, rt),
         "command" => commands::command(line),
+        "command_on" => commands::command_on(line),
         "lines" => commands::lines(line),
         "example" => examples::example(line, rt),
         "words" => fault_words::words(line),

@@ -1,4 +1,4 @@
-// What a report comes to.
+// The outcome of a report.
 use crate::reader::{Giver, Giving};
 use crate::writer::{Taker, Taking};
 use jx_crew::{Event, Gate, Go};
@@ -31,7 +31,7 @@ pub struct Outcome {
     pub writer_failed: bool,
 }
 
-/// What a report comes to between such ends, which reads so many bytes at a time if they are told. There is none for a piece or a
+/// The outcome of a report with such a reader and writer, which reads so many bytes at a time if given. There is none for a chunk or a
 /// batch of no bytes, and for a batch of more than 4 GiB.
 pub fn outcome_of<R: Threads + Wait + Sync>(
     rt: &R,
@@ -67,7 +67,7 @@ pub fn outcome_of<R: Threads + Wait + Sync>(
     })
 }
 
-/// An output that is longer is told by its length.
+/// An output that is longer is written as its length.
 const LONG: usize = 32768;
 
 /// What was written, with `|` for a line feed, or `-` for nothing.
@@ -99,7 +99,7 @@ fn answer_word(answer: Result<Exit, ReportFault>) -> &'static str {
     }
 }
 
-/// Whether the ends have failed as the answer tells, and all of the input was read unless the reader failed.
+/// Whether the reader and the writer have failed as the answer says, and all of the input was read unless the reader failed.
 fn is_told(outcome: &Outcome) -> bool {
     outcome.reader_failed == (outcome.answer == Err(ReportFault::Read))
         && outcome.writer_failed == (outcome.answer == Err(ReportFault::Write))

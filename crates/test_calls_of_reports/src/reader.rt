@@ -1,4 +1,4 @@
-// A reader that gives little at a time, and fails at the call that it is told.
+// A reader that gives little at a time, and fails at a given call.
 use std::io;
 use std::io::Read;
 use test_words::{LineFault, number_of};
@@ -15,7 +15,7 @@ pub struct Giving {
     pub fails_at: usize,
     /// What it fails by.
     pub kind: io::ErrorKind,
-    /// How many zeros are given behind the text.
+    /// How many zeros are given after the text.
     pub zeros: usize,
 }
 
@@ -41,7 +41,7 @@ impl Giving {
     }
 }
 
-/// Gives a text, and zeros behind it.
+/// Gives a text, and zeros after it.
 #[derive(Drop)]
 pub struct Giver<'a> {
     text: &'a [u8],

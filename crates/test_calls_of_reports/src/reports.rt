@@ -69,7 +69,7 @@ pub struct Way {
     pub batch: Option<usize>,
 }
 
-/// The batches that are tried: `report` itself where none is told.
+/// The batches that are tried: `report` itself where none is given.
 fn batches_of(alloc: Global, options: &Options) -> Result<Vec<Option<usize>>, AllocError> {
     let mut batches = Vec::new(alloc);
     for batch in &options.batches {
@@ -81,7 +81,7 @@ fn batches_of(alloc: Global, options: &Options) -> Result<Vec<Option<usize>>, Al
     Ok(batches)
 }
 
-/// All ways: each number of workers, each length of a piece and each of a batch.
+/// All ways: each number of workers, each length of a chunk and each of a batch.
 pub fn ways_of(alloc: Global, options: &Options) -> Result<Vec<Way>, AllocError> {
     let batches = batches_of(alloc, options)?;
     let mut ways = Vec::new(alloc);
@@ -130,7 +130,7 @@ fn add_ways<R: Threads + Wait + Sync>(
     Ok(())
 }
 
-/// What the report comes to between such ends.
+/// The outcome of the report with such a reader and writer.
 pub fn outcome_by<R: Threads + Wait + Sync>(
     rt: &R,
     alloc: Global,

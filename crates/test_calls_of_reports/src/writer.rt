@@ -1,4 +1,4 @@
-// A writer that takes little at a time, and fails at the call that it is told.
+// A writer that takes little at a time, and fails at a given call.
 use crate::reader::NO_CALL;
 use std::alloc::Global;
 use std::io;

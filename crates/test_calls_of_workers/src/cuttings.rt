@@ -17,7 +17,7 @@ pub struct Reading {
 }
 
 /// How a text of so many bytes is read. A word asks for lists of cuts: beyond the words that all programs know, `bytes` is a cut
-/// behind each byte. It is one of the lists too where there are several. If the count of workers is not told, one, two and five
+/// after each byte. It is one of the lists too where there are several. If the count of workers is not told, one, two and five
 /// workers read where there is one list, and else two.
 pub fn readings(line: &mut Line<'_>, word: &str, len: usize, count: Option<usize>) -> Vec<Reading> {
     let readings = readings_of(line.alloc, word, len, count);

@@ -21,7 +21,7 @@ pub fn told_of(alloc: Global, elements: &[JudgedElement]) -> Out {
     told
 }
 
-/// The same of elements with their indexes.
+/// Each element with its index, or `-` where there is none.
 pub fn told_of_answers(alloc: Global, elements: &[Element]) -> Result<Out, AllocError> {
     let mut judged = Vec::new(alloc);
     for element in elements {

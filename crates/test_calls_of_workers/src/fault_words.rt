@@ -10,7 +10,7 @@ use jx_shelf::ShelfFault;
 use std::alloc::{AllocError, Global};
 use test_words::{Line, Out};
 
-/// `words FAULTS`: how the faults of cuttings, answers, held runs, finished books or the shelf show.
+/// `words FAULTS`: how the faults of divisions, answers, held runs, finished accumulators or the shelf show.
 pub fn words(line: &mut Line<'_>) {
     let alloc = line.alloc;
     let told = match line.word() {

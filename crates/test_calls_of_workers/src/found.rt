@@ -1,4 +1,4 @@
-// What pointers come to in an index, in words.
+// The answers to pointers in an index, in words.
 use jx_answer::Answer;
 use jx_index::{FindFault, Indexed, NodeId};
 use jx_lex::{Kind, Span};

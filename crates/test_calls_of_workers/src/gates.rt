@@ -7,11 +7,11 @@ use test_words::{Line, LineFault, number_of};
 pub enum StopOn {
     Nothing,
     Everything,
-    /// The draw of the piece of this number.
+    /// The chunk of this number was taken.
     Drew(usize),
     Stored,
     Took,
-    /// A draw by the worker of this seat.
+    /// The worker of this handle took a chunk.
     Worker(usize),
 }
 

@@ -17,7 +17,7 @@ pub enum Holding {
 /// How a worker ended.
 #[derive(Clone, Copy)]
 pub enum Ended {
-    /// No piece was left.
+    /// No chunk was left.
     Whole,
     Stopped(Cause, Holding),
 }
@@ -49,7 +49,7 @@ fn push_holding(out: &mut Out, holding: Holding) {
     }
 }
 
-/// `ended`, or the cause and what was held.
+/// Writes `ended`, or the cause and what the worker had.
 pub fn push_ended(out: &mut Out, ended: Ended) {
     match ended {
         Ended::Whole => out.push_str("ended"),

@@ -1,5 +1,5 @@
 // The program `test_calls_of_workers`: makes the calls that the lines of its input name, and prints what each answers, on the line
-// of the same number. The calls are those of cuttings, of books that workers fill, of the answers of workers and of the shelf. An
+// of the same number. The calls are those of divisions, of accumulators that workers fill, of the answers of workers and of the shelf. An
 // empty line and one that begins with `#` are printed as they stand.
 #![tactic(auto)]
 

@@ -1,4 +1,4 @@
-// More pointers than a list of pointers has pieces.
+// More pointers than a list of pointers has chunks.
 use crate::cuttings::{cutting_at, workers_of};
 use crate::found::found_at;
 use jx_answer::{TextAnswer, find_all, index_text};
@@ -53,7 +53,7 @@ fn found_alike<R: Threads + Wait + Sync>(
     Ok(answers.iter().filter(|answer| **answer == alone).count())
 }
 
-/// So many pointers that are spelt alike.
+/// So many copies of a pointer.
 fn copies(alloc: Global, count: usize, spelt: &str) -> Result<Vec<Pointer<'_>>, AllocError> {
     let mut pointers = Vec::new(alloc);
     for _ in 0..count {

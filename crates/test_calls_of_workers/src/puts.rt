@@ -1,4 +1,4 @@
-// What puts into a book are answered, and what is left in it.
+// What puts into an accumulator are answered, and what is left in it.
 ghost use Rattle.std.specs.Prelude.{◌≡◌, ◌<◌, IfOk};
 
 use crate::copied::Copied;
@@ -37,21 +37,21 @@ fn next_steps(line: &mut Line<'_>, len: usize) -> Vec<Step> {
     line.read_or(steps, Vec::new(line.alloc))
 }
 
-/// What is put into a book, and what is told of it then.
+/// What is put into an accumulator, and the answers then.
 #[derive(Clone, Copy)]
 struct Asked<'a> {
     text: &'a [u8],
     depth: Depth,
     steps: &'a [Step],
-    /// What the book is finished with.
+    /// What the accumulator is finished with.
     other: &'a [u8],
     other_depth: Depth,
-    /// Whose gaps are told.
+    /// Whose gaps are listed.
     part: Span,
 }
 
-/// `puts TEXT SPANS S..E`: what puts are answered by the state of a book and by a book that threads share, how many bytes
-/// were put and taken out, which runs stand there then, and the gaps that these leave in a part, which may go on behind the text.
+/// `puts TEXT SPANS S..E`: what puts are answered by the state of an accumulator and by an accumulator that threads share, how many bytes
+/// were put and taken out, which runs stand there then, and the gaps that these leave in a part, which may go on after the text.
 pub fn puts<R: Wait>(line: &mut Line<'_>, rt: &R) {
     let text = line.text();
     let steps = next_steps(line, text.len());
@@ -83,8 +83,8 @@ fn push_puts<R: Wait>(
     Ok(())
 }
 
-/// `finish TEXT DEPTH SPANS TEXT DEPTH S..E`: puts the runs of the spans in the one text, finishes the book with the other, and
-/// tells the gaps of a part, or that a run is of another text or depth.
+/// `finish TEXT DEPTH SPANS TEXT DEPTH S..E`: puts the runs of the spans in the one text, finishes the accumulator with the other, and
+/// lists the gaps of a part, or says that a run is of another text or depth.
 pub fn finish<R: Wait>(line: &mut Line<'_>, rt: &R) {
     let text = line.text();
     let depth = line.depth();
@@ -148,7 +148,7 @@ fn push_put(out: &mut Out, put: &Put<'_, Copied>) {
     }
 }
 
-/// What the state of a book answers.
+/// What the state of an accumulator answers.
 fn put_on_state(alloc: Global, asked: &Asked<'_>) -> Result<Out, LineFault> {
     let mut out = Out::new(alloc);
     let mut state = BookState::new(alloc);
@@ -168,7 +168,7 @@ fn push_totals(out: &mut Out, put: u128, taken: u128) {
     out.put(format_args!("put {put}, taken {taken}; runs "));
 }
 
-/// What a book that threads share answers, and the gaps of a part then, or that a run is of another text or depth.
+/// What an accumulator that threads share answers, and the gaps of a part then, or that a run is of another text or depth.
 #[derive(Drop)]
 struct PutOnBook {
     put: Out,
@@ -181,7 +181,7 @@ fn put_on_book<R: Wait>(rt: &R, alloc: Global, asked: &Asked<'_>) -> Result<PutO
     shared::<Brand, Brand, R>(rt, alloc, asked, put, taken, workers)
 }
 
-/// The same, with blanks for the ledgers of a book.
+/// The same, with the `Blank`s of an accumulator's ledgers.
 fn shared<P: Ledger, T: Ledger, R: Wait>(
     rt: &R,
     alloc: Global,
@@ -210,7 +210,7 @@ fn shared<P: Ledger, T: Ledger, R: Wait>(
     Ok(PutOnBook { put, gaps })
 }
 
-/// Puts a run for each step, and tells what was answered.
+/// Puts a run for each step, and returns what was answered.
 fn put_all<'a, P: Ledger, T: Ledger, R: Wait>(
     out: &mut Out,
     rt: &R,

@@ -55,7 +55,7 @@ fn add_reading<R: Threads + Wait + Sync>(
     Ok(())
 }
 
-/// The cutting without a mark that is ignored.
+/// The division without an ignored byte order mark.
 fn behind_front(cutting: Cutting, text: &[u8], mark: FrontMark) -> Result<Cutting, LineFault>
     requires len { cutting.len ≡ length text.now }
     requires front { cutting.front ≡ 0 }

@@ -1,4 +1,4 @@
-// Runs that a book holds, and what they are in words.
+// Runs that an accumulator holds, and what they are in words.
 ghost use Rattle.std.specs.Prelude.{◌<◌, IfOk, IfSome};
 
 use crate::copied::Copied;

@@ -1,4 +1,4 @@
-// A summary that keeps nothing, for which memory is refused at offset 2 and at each join.
+// A summary that keeps nothing, whose allocations fail at offset 2 and at each join.
 use jx_lex::{Depth, JoinFault, Span};
 use jx_run::Summary;
 use std::alloc::{AllocError, Global};

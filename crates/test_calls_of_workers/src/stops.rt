@@ -15,7 +15,7 @@ use std::sync::Wait;
 use std::sync::ledger::{Blank, Ledger};
 use test_words::{Line, LineFault};
 
-/// A run of another text that stands in the book before; an empty span is none.
+/// A run of another text that is in the accumulator before; an empty span stands for no run.
 #[derive(Drop)]
 struct Before {
     text: Vec<u8>,
@@ -38,8 +38,8 @@ fn next_before(line: &mut Line<'_>) -> Before {
     Before { text, span, depth }
 }
 
-/// `work SIZE SEATS GATE TEXT [TEXT S..E DEPTH]`: why the worker of the last seat stops, which alone reads the first text in
-/// pieces of SIZE bytes, and what it holds then. A run of the other text stands in the book before.
+/// `work SIZE SEATS GATE TEXT [TEXT S..E DEPTH]`: why the worker of the last worker handle stops, which alone reads the first text in
+/// chunks of SIZE bytes, and what it holds then. A run of the other text stands in the accumulator before.
 pub fn work<S: Summary, R: Wait>(line: &mut Line<'_>, rt: &R) {
     let size = line.number();
     let seats = line.number();
@@ -52,7 +52,7 @@ pub fn work<S: Summary, R: Wait>(line: &mut Line<'_>, rt: &R) {
     }
 }
 
-/// How the worker of the last of so many seats ends, over pieces of so many bytes.
+/// How the worker of the last of so many worker handles ends, over chunks of so many bytes.
 fn worked<S: Summary, R: Wait>(
     rt: &R,
     alloc: Global,
@@ -72,7 +72,7 @@ fn worked<S: Summary, R: Wait>(
     Ok(ended)
 }
 
-/// A text of so many bytes in pieces of that many.
+/// A text of so many bytes in chunks of that many.
 fn pieces_of(len: usize, size: usize) -> Result<Cutting, LineFault>
     ensures { IfOk result (λ cutting. cutting.len ≡ len) }
 {
@@ -82,7 +82,7 @@ fn pieces_of(len: usize, size: usize) -> Result<Cutting, LineFault>
     Cutting::every(len, size).ok().ok_or(LineFault::NoSuchCall)
 }
 
-/// The same, with blanks for the ledgers of a book.
+/// The same, with the `Blank`s of an accumulator's ledgers.
 fn alone<S: Summary, P: Ledger, T: Ledger, R: Wait>(
     rt: &R,
     alloc: Global,
@@ -112,7 +112,7 @@ fn alone<S: Summary, P: Ledger, T: Ledger, R: Wait>(
     }
 }
 
-/// Puts what stands in the book before.
+/// Puts what stands in the accumulator before.
 fn put_before<'a, S: Summary, P: Ledger, T: Ledger, R: Wait>(
     rt: &R,
     alloc: Global,

@@ -1,4 +1,4 @@
--- What a pointer comes to in bytes.
+-- The answer to a pointer in bytes.
 use Rattle.std.specs.Prelude.{◌≡◌, ℕ, List, Ok, Err}
 use Rattle.jx_summary.specs.declared.span.Span.{Span}
 use Rattle.jx_run.specs.declared.texts.verdict.Verdict.TheVariants as verdict

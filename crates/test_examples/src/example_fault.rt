@@ -7,7 +7,7 @@ use thiserror::Error;
 /// Why an example has no answer.
 #[derive(Clone, Copy, Debug, PartialEq, Eq, Error)]
 pub enum ExampleFault {
-    /// The input has too many pieces.
+    /// The input has too many chunks.
     #[error(transparent)]
     Cut(#[from] CutFault),
     /// There is no answer on the input.

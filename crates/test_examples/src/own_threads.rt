@@ -24,7 +24,7 @@ struct Hands<P: Ledger, T: Ledger> {
     share: Share<P, T>,
 }
 
-/// Whether bytes are a JSON text, as `check` tells, read by two workers on threads that the caller makes.
+/// Whether bytes are a JSON text, as `check` reports it, read by two workers on threads that the caller makes.
 pub fn check_on_own_threads<R: Threads + Wait + Sync>(
     rt: &R,
     alloc: Global,
@@ -37,7 +37,7 @@ pub fn check_on_own_threads<R: Threads + Wait + Sync>(
     check_by_two::<Brand, Brand, R>(rt, alloc, text, put, taken)
 }
 
-/// The verdict on a text by two workers on threads of their own. The blanks are for the ledgers of a book.
+/// The verdict on a text by two workers on threads of their own, with the `Blank`s of an accumulator's ledgers.
 fn check_by_two<P: Ledger + Send + Sync, T: Ledger + Send + Sync, R: Threads + Wait + Sync>(
     rt: &R,
     alloc: Global,
@@ -78,7 +78,7 @@ fn verdict_of(text: &[u8], run: &Held<'_, OutcomeRun>) -> Verdict
     run.run().verdict()
 }
 
-/// A seat and a share of those that are left.
+/// A worker handle and a share of those that are left.
 fn next_of<P: Ledger, T: Ledger>(
     claims: &Claims,
     seats: &mut Vec<ClaimSeat>,
@@ -128,7 +128,7 @@ fn both_work<'a, P: Ledger + Send + Sync, T: Ledger + Send + Sync, R: Threads + 
     )
 }
 
-/// Lets one worker read until no piece is left.
+/// Lets one worker read until no chunk is left.
 fn work_to_the_end<'a, P: Ledger, T: Ledger, R: Wait>(
     rt: &R,
     alloc: Global,

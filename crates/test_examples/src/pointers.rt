@@ -7,21 +7,21 @@ use crate::example_fault::ExampleFault;
 use jx_answer::{TextAnswer, index_text};
 use jx_claim::Cutting;
 use jx_crew::{OpenGate, Workers};
-use jx_index::{FindFault, Indexed, Pointer, look_ups_end_at_rows};
+use jx_index::{FindFault, Indexed, Pointer, rows_of_look_ups};
 use jx_lex::{Depth, Span};
 use jx_run::Refusal;
 use std::alloc::Global;
 use std::sync::Wait;
 use std::thread::Threads;
 
-/// What a pointer comes to in a text.
+/// The answer to a pointer in a text.
 #[derive(Clone, Copy, Debug, PartialEq, Eq)]
 pub enum LookUp {
     /// Its value stands there.
     Found(Span),
     /// It leads nowhere.
     Lost(FindFault),
-    /// The bytes are no text.
+    /// The bytes are not valid JSON.
     Refused(Refusal),
 }
 
@@ -49,7 +49,7 @@ fn span_of(index: &Indexed, pointer: &Pointer) -> LookUp
         → IsText index.now.text index.now.span.start index.now.span.end limit tree
         → IsSpan index.now.text tree pointer.now result }
 {
-    look_ups_end_at_rows();
+    rows_of_look_ups();
     match index.find(pointer) {
         Ok(node) => LookUp::Found(index.row(node).span),
         Err(fault) => LookUp::Lost(fault),

@@ -12,7 +12,7 @@ use std::alloc::{AllocError, Global};
 use std::sync::Wait;
 use std::thread::Threads;
 
-/// Where the elements of a text sequence (RFC 7464) stand that are texts, in order. The others are passed over.
+/// The spans of the elements of a text sequence (RFC 7464) that are texts, in order. The others are skipped.
 pub fn whole_elements<R: Threads + Wait + Sync>(
     rt: &R,
     alloc: Global,

@@ -2,11 +2,11 @@ ghost use Rattle.std.specs.Prelude.{IfOk};
 ghost use Rattle.jx_run.specs.Verdict.{Judged};
 
 use crate::example_fault::ExampleFault;
-use jx_answer::{any_names_change_nothing, verdict_of_text};
+use jx_answer::{verdict_of_text, verdict_without_a_rule_on_names};
 use jx_claim::Cutting;
 use jx_crew::{Crew, OpenGate, Workers};
 use jx_lex::Depth;
-use jx_run::{Verdict, a_refused_mark_changes_nothing};
+use jx_run::{Verdict, verdicts_with_a_refused_mark};
 use std::alloc::Global;
 use std::sync::Wait;
 use std::thread::Threads;
@@ -20,8 +20,8 @@ pub fn check<R: Threads + Wait + Sync>(
 ) -> Result<Verdict, ExampleFault>
     ensures { IfOk result (Judged 0 text.now 512) }
 {
-    a_refused_mark_changes_nothing();
-    any_names_change_nothing();
+    verdicts_with_a_refused_mark();
+    verdict_without_a_rule_on_names();
     let cutting = Cutting::every(text.len(), 65536)?;
     let crew = Crew {
         rt,

@@ -1,4 +1,4 @@
-//! Tests that cross crates: each growth of memory refused in turn, stops of workers, ends that fail, and every cut.
+//! Tests that cross crates: each allocation refused in turn, stops of workers, ends that fail, and every cut.
 #![tactic(auto)]
 
 #[cfg(test)]

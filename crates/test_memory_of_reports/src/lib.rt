@@ -1,4 +1,4 @@
-//! Tests of commands and reports: each growth of memory refused in turn, and workers who stop.
+//! Tests of commands and reports: each allocation refused in turn, and workers who stop.
 #![tactic(auto)]
 
 #[cfg(test)]

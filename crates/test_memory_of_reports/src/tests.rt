@@ -1,4 +1,4 @@
-// Commands and reports, where memory is refused and where workers stop.
+// Commands and reports that are out of memory, and those whose workers stop.
 mod commands;
 mod growths;
 mod stops;

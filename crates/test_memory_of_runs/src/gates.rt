@@ -6,14 +6,14 @@ use std::sync::atomic::{AtomicBool, AtomicU64, Ordering};
 pub const MANY: u64 = 1000;
 
 /// Stops at the event of this number and at all later ones. Events are counted from 0, once `begun` is true. It notes
-/// whether a worker that was told to stop went on with the piece that it had.
+/// whether a stopped worker went on with the chunk that it had.
 #[derive(Drop)]
 pub struct StopFrom<'a> {
     number: u64,
     begun: &'a AtomicBool,
     events: AtomicU64,
     has_stopped: AtomicBool,
-    // A bit for each worker that was told to stop as it last asked.
+    // A bit for each worker that the gate stopped as it last asked.
     stopped: AtomicU64,
     was_ignored: AtomicBool,
 }
@@ -44,12 +44,12 @@ impl<'a> StopFrom<'a> {
         self.has_stopped.load(Ordering::SeqCst)
     }
 
-    /// Whether a worker that was told to stop read its piece or moved a run all the same.
+    /// Whether a stopped worker read its chunk or moved a run all the same.
     pub fn was_ignored(&self) -> bool {
         self.was_ignored.load(Ordering::SeqCst)
     }
 
-    /// Notes a step that is no draw where its worker had been told to stop.
+    /// Notes a step that takes no chunk where the gate had stopped its worker.
     fn note(&self, event: Event) {
         let bit = 1u64 << (worker_of(event) % 64);
         let is_stopped = self.stopped.load(Ordering::SeqCst) & bit != 0;
@@ -59,7 +59,7 @@ impl<'a> StopFrom<'a> {
         self.stopped.fetch_and(!bit, Ordering::SeqCst);
     }
 
-    /// Notes that a worker is told to stop.
+    /// Notes that a worker is stopped.
     fn stop(&self, event: Event) {
         let bit = 1u64 << (worker_of(event) % 64);
         self.stopped.fetch_or(bit, Ordering::SeqCst);

@@ -1,4 +1,4 @@
-//! Texts that several tests read, and what they come to.
+//! Texts that several tests read, and the answers on them.
 use jx_lex::{Depth, Kind};
 use jx_run::{FrontMark, NameRule, Refusal, Settings};
 
@@ -37,9 +37,9 @@ pub type WorkedRow = (
     Option<(usize, usize)>,
 );
 
-/// A text, and what it comes to within a depth where names may be repeated: its rows, as offsets behind the byte order mark of
+/// A text, and the answer on it within a depth where names may be repeated: its rows, as offsets after the byte order mark of
 /// so many bytes in front of it, or its refusal. Where names have to be unique it is refused for the first one that an object
-/// repeats, which begins there behind the mark.
+/// repeats, which begins there after the byte order mark.
 #[derive(Clone, Copy, Debug)]
 pub struct Worked {
     pub text: &'static [u8],

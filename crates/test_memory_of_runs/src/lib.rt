@@ -1,4 +1,4 @@
-//! Tests of the crates below `jx_answer`: each growth of memory refused in turn, and lists by chance. What the tests
+//! Tests of the crates below `jx_answer`: each allocation refused in turn, and lists by chance. What the tests
 //! above read too is public: inputs, the lines of a table, and a gate that stops workers.
 #![tactic(auto)]
 

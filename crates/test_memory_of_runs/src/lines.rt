@@ -1,6 +1,6 @@
 //! Which lines of a table a test runs: all of them, or the one that the environment names.
 //!
-//! Where each growth of memory is refused in turn, a test is begun once for each of its requests. A table would be gone through
+//! Where each allocation is refused in turn, a test is begun once for each of its requests. A table would be gone through
 //! as often as all its lines together have requests; a line alone is gone through as often as it has requests itself.
 use std::env::Env;
 
@@ -36,7 +36,7 @@ impl Lines {
     }
 }
 
-// The number that these digits spell.
+// The number in these digits.
 fn number_of(digits: &[u8]) -> usize {
     digits.iter().fold(0, |number: usize, digit| {
         number

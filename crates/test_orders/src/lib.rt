@@ -1,4 +1,4 @@
-//! What words of the command line ask for, in words.
+//! What arguments ask for, in words.
 #![tactic(auto)]
 
 mod orders;

@@ -32,7 +32,7 @@ pub fn push_task(out: &mut Out, task: &Task) {
     }
 }
 
-/// A name, and pointers behind it.
+/// A name, and pointers after it.
 pub fn push_pointers(out: &mut Out, name: &str, pointers: &[String]) {
     out.push_str(name);
     for pointer in pointers {
@@ -114,7 +114,7 @@ fn push_each(out: &mut Out, order: &EachOrder) {
     push_progress(out, order.progress);
 }
 
-/// Whether progress is told, and nothing where it is not.
+/// Writes whether progress is shown, and nothing where it is not.
 fn push_progress(out: &mut Out, progress: ShowProgress) {
     match progress {
         ShowProgress::Auto => out.push_str("; progress auto"),

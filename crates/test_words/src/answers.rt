@@ -91,7 +91,7 @@ fn push_row(out: &mut Out, row: &Row) {
     }
 }
 
-/// All rows, each behind a semicolon and its number.
+/// All rows, each after a semicolon and its number.
 pub fn push_rows(out: &mut Out, rows: &[Row]) {
     for (number, row) in rows.iter().enumerate() {
         out.put(format_args!("; {number} "));

@@ -1,15 +1,15 @@
 //! Tests that are data: a line is a call with its words, and another line its answer. Here are the words that programs of
-//! such calls have in common: how a line spells what a call takes, how it tells what a call answers, and how a program goes
-//! through its lines. Here is too what tests of marks look at beside the calls: the table of moves, read one mark at a time.
+//! such calls have in common: how a line writes what a call takes, how it writes what a call answers, and how a program goes
+//! through its lines. Here is too what tests of token starts look at beside the calls: the table of moves, read one token start at a time.
 //!
-//! A line has a call's name and its words, parted by one blank. An empty line and a line that begins with `#` are no call.
+//! A line has a call's name and its words, parted by one space. An empty line and a line that begins with `#` are no call.
 //!
 //! A text is one word. Its bytes 21 to 7E stand for themselves, but `\`:
 //!
-//! | Spelt | Stands for |
+//! | Written | Stands for |
 //! |---|---|
 //! | `\xHH` | the byte with these hexadecimal digits |
-//! | `\*N;` | the byte behind it, N times: `\*600;[`, `\*3;\x20` |
+//! | `\*N;` | the byte after it, N times: `\*600;[`, `\*3;\x20` |
 //! | `\(N;` .. `\)` | the bytes between, N times: `\(80;1,\x0A\)`. It holds no other such part |
 //! | `\-` | no bytes, where it is the whole word |
 //!
@@ -17,7 +17,7 @@
 //! are such a list, or `each` for each single one and `pairs` for each pair too; both also try none. Settings are letters:
 //! `b` where a byte order mark is ignored, `u` where names have to be unique, or `-`. States and expectations have the names
 //! that they have in Rust. Open containers are letters, the outermost first: `A` for an array, `O` for an object, or `-`.
-//! Marks are each a letter and an offset, joined by `+`, or `-` for none: `,6+n7+]8`. The letters are `[ ] { } : ,` and, for
+//! Token starts are each a letter and an offset, joined by `+`, or `-` for none: `,6+n7+]8`. The letters are `[ ] { } : ,` and, for
 //! strings, numbers, `true`, `false` and `null`, `s n t f z`.
 #![tactic(auto)]
 

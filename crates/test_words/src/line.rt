@@ -125,37 +125,37 @@ impl<'a> Line<'a> {
         rest
     }
 
-    /// The bytes that the next word spells.
+    /// The bytes in the next word.
     pub fn text(&mut self) -> Vec<u8> {
         let read = bytes_of(self.alloc, self.word());
         self.read_or(read, Vec::new(self.alloc))
     }
 
-    /// The texts that all words spell that are left.
+    /// The texts in all words that are left.
     pub fn texts(&mut self) -> Vec<String> {
         let read = texts_of(self.alloc, self.rest());
         self.read_or(read, Vec::new(self.alloc))
     }
 
-    /// The number that the next word spells.
+    /// The number in the next word.
     pub fn number(&mut self) -> usize {
         let read = number_of(self.word());
         self.read_or(read, 0)
     }
 
-    /// The numbers of the list that the next word spells.
+    /// The numbers of the list in the next word.
     pub fn numbers(&mut self) -> Vec<usize> {
         let read = numbers_of(self.alloc, self.word());
         self.read_or(read, Vec::new(self.alloc))
     }
 
-    /// The depth that the next word spells.
+    /// The depth in the next word.
     pub fn depth(&mut self) -> Depth {
         let read = depth_of(self.word());
         self.read_or(read, Depth::default())
     }
 
-    /// The settings that the next word spells, within a depth.
+    /// The settings in the next word, within a depth.
     pub fn settings(&mut self, depth: Depth) -> Settings {
         let read = settings_of(depth, self.word());
         let other = Settings {
@@ -178,13 +178,13 @@ impl<'a> Line<'a> {
         self.read_or(read, Expect::Value)
     }
 
-    /// The open containers that the next word spells, the outermost first.
+    /// The open containers in the next word, the outermost first.
     pub fn holders(&mut self) -> Vec<Holder> {
         let read = holders_of(self.alloc, self.word());
         self.read_or(read, Vec::new(self.alloc))
     }
 
-    /// The span within so many bytes that the next word spells.
+    /// The span within so many bytes in the next word.
     pub fn span(&mut self, len: usize) -> Span
         ensures ordered { result.start ≤ result.end }
         ensures within { result.end ≤ len }
@@ -198,7 +198,7 @@ impl<'a> Line<'a> {
         }
     }
 
-    /// The two spans that meet within so many bytes that the next word spells.
+    /// The two spans that meet within so many bytes in the next word.
     pub fn meeting(&mut self, len: usize) -> Meeting
         ensures left { result.start ≤ result.cut }
         ensures right { result.cut ≤ result.end }

@@ -1,4 +1,4 @@
-// The table of moves, read one mark at a time, and what lists of marks come to by it.
+// The table of moves, read one token start at a time, and the outcomes of lists of token starts by it.
 ghost use Rattle.std.specs.Prelude.{◌≤◌, length};
 ghost use Rattle.jx_reduce.specs.Reduced.{depth_of};
 
@@ -39,7 +39,7 @@ pub const HOLDER_LISTS: [&[Holder]; 15] = [
     &[O, O, O],
 ];
 
-/// The kind of mark that this letter stands for.
+/// The kind of token start that this letter stands for.
 pub fn kind_of(letter: u8) -> Option<MarkKind> {
     match letter {
         b'[' => Some(MarkKind::OpenArray),
@@ -57,7 +57,7 @@ pub fn kind_of(letter: u8) -> Option<MarkKind> {
     }
 }
 
-/// The containers that stand open behind a mark of this kind, which the table allows.
+/// The containers that stand open after a token start of this kind, which the table allows.
 pub fn follow(open: &mut Vec<Holder>, kind: MarkKind) -> Result<(), AllocError> {
     match kind {
         MarkKind::OpenArray => open.push(Holder::Array)?,
@@ -70,7 +70,7 @@ pub fn follow(open: &mut Vec<Holder>, kind: MarkKind) -> Result<(), AllocError> 
     Ok(())
 }
 
-/// What the marks come to by the table of moves, one mark at a time, from this expectation and over these open containers, of which
+/// The outcome of the token starts by the table of moves, one at a time, from this expectation and over these open containers, of which
 /// there are no more than the depth allows.
 fn read_by_table(
     alloc: Global,
@@ -98,7 +98,7 @@ fn read_by_table(
     })
 }
 
-/// Adds what the table makes of the marks from an expectation, over each of these lists that the depth allows.
+/// Adds what the table makes of the token starts from an expectation, over each of these lists that the depth allows.
 fn add_by_table(
     outcomes: &mut Vec<Outcome>,
     alloc: Global,
@@ -115,7 +115,7 @@ fn add_by_table(
     Ok(())
 }
 
-/// What the table makes of the marks, from each expectation and over each of these lists of containers that the depth allows.
+/// What the table makes of the token starts, from each expectation and over each of these lists of containers that the depth allows.
 pub fn all_by_table(
     alloc: Global,
     marks: &[Mark],
@@ -151,7 +151,7 @@ fn count_as_wanted(
     Ok(Some(count))
 }
 
-/// Whether this outcome is what the marks come to over these containers.
+/// Whether this is the outcome of the token starts over these containers.
 fn acts_so(one: &Reduced, holders: &[Holder], wanted: Option<&Outcome>) -> Result<bool, AllocError>
     requires { length holders.now ≤ depth_of one.now }
 {
@@ -159,7 +159,7 @@ fn acts_so(one: &Reduced, holders: &[Holder], wanted: Option<&Outcome>) -> Resul
     Ok(wanted == Some(&outcome))
 }
 
-/// Whether the structure comes to these outcomes, from each expectation and over each of these lists that the depth allows.
+/// Whether the structure has these outcomes, from each expectation and over each of these lists that the depth allows.
 pub fn comes_to(
     all: &Reductions,
     lists: &[&[Holder]],

@@ -5,7 +5,7 @@ use crate::line::LineFault;
 use jx_lex::{Depth, Span};
 use std::alloc::Global;
 
-/// The number that a word spells.
+/// The number in a word.
 pub fn number_of(word: &str) -> Result<usize, LineFault> {
     word.parse::<usize>().ok().ok_or(LineFault::NoSuchCall)
 }

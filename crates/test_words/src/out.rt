@@ -1,9 +1,9 @@
-// What is written piece by piece.
+// A text that is written bit by bit.
 use std::alloc::{AllocError, Global};
 use std::fmt::Display;
 
-/// A text that is written piece by piece. A growth that is refused is kept, and told in the end: so what writes has no branch at
-/// each of its pieces, and its proof is short.
+/// A text that is written bit by bit. An allocation that fails is kept, and reported in the end: so what writes has no branch at
+/// each step, and its proof is short.
 #[derive(Drop, PartialEq)]
 pub struct Out {
     text: String,
@@ -36,14 +36,14 @@ impl Out {
         self.is_refused |= written.is_err();
     }
 
-    /// Writes what parts a piece from the one before it, if there is one.
+    /// Writes a separator, unless nothing was written before.
     pub fn part(&mut self, mark: &str) {
         if !self.text.is_empty() {
             self.push_str(mark);
         }
     }
 
-    /// Writes each of these with a mark between, or `-` for none.
+    /// Writes each of these with a separator between, or `-` for none.
     pub fn list<T, F: Fn(&mut Out, &T)>(&mut self, mark: &str, items: &[T], push: F)
         requires { F.IsAlwaysCallable push }
     {
@@ -58,18 +58,18 @@ impl Out {
         }
     }
 
-    /// Keeps that memory was refused for a piece.
+    /// Keeps that an allocation failed.
     pub fn refuse(&mut self) {
         self.is_refused = true;
     }
 
-    /// Writes what another one has, and keeps that memory was refused for it.
+    /// Writes what another one has, and keeps that an allocation failed for it.
     pub fn push(&mut self, other: &Out) {
         self.push_str(other.text.as_str());
         self.is_refused |= other.is_refused;
     }
 
-    /// All that was written, unless memory was refused for a piece of it.
+    /// All that was written, unless an allocation failed.
     pub fn finish(self) -> Result<String, AllocError> {
         if self.is_refused {
             Err(AllocError)

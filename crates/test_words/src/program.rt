@@ -21,7 +21,7 @@ fn answer_to<F: Fn(&mut Line<'_>)>(
 }
 
 /// Prints what each line of the input is answered, on the line of the same number. `make` makes the call that a line names with the
-/// words behind the name, and refuses a name that no call has.
+/// words after the name, and refuses a name that no call has.
 pub fn answer_lines<F: Fn(&mut Line<'_>)>(rt: &HostRuntime, make: F) -> io::Result<()>
     requires { F.IsAlwaysCallable make }
 {

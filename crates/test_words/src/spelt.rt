@@ -1,4 +1,4 @@
-// How a word spells bytes.
+// How a word writes bytes.
 use crate::out::Out;
 
 fn push_byte(out: &mut Out, byte: u8) {
@@ -9,7 +9,7 @@ fn push_byte(out: &mut Out, byte: u8) {
     }
 }
 
-/// The word that spells these bytes.
+/// The word for these bytes.
 pub fn push_text(out: &mut Out, bytes: &[u8]) {
     if bytes.is_empty() {
         out.push_str("\\-");

@@ -1,4 +1,4 @@
-// The structures of lists of marks and of both parts of a list, made in two ways.
+// The structures of lists of token starts and of both parts of a list, made in two ways.
 ghost use Rattle.std.specs.Prelude.{◌≡◌, ◌≤◌, ◌<◌, ℕ, IfOk, length};
 ghost use Rattle.jx_reduce.specs.Offsets.{EachIn, RisingFrom};
 ghost use Rattle.jx_reduce.specs.Reductions.{IsBefore, SpansIn};
@@ -7,7 +7,7 @@ use jx_lex::{Depth, Mark};
 use jx_reduce::{Reducer, Reductions};
 use std::alloc::{AllocError, Global};
 
-/// How a structure is made of marks.
+/// How a structure is made of token starts.
 #[derive(Clone, Copy)]
 pub enum Maker {
     /// Of all of them at once.
@@ -16,7 +16,7 @@ pub enum Maker {
     OneByOne,
 }
 
-/// The structure of marks.
+/// The structure of token starts.
 pub fn structure_of(
     alloc: Global,
     marks: &[Mark],
@@ -33,7 +33,7 @@ pub fn structure_of(
     }
 }
 
-/// The structure of marks that a reducer is given one by one.
+/// The structure of token starts that a reducer is given one by one.
 fn reduced_of(alloc: Global, marks: &[Mark], depth: Depth) -> Result<Reductions, AllocError>
     requires rising { RisingFrom 0 marks.now }
     ensures depth { IfOk result (λ f. f.depth ≡ depth) }

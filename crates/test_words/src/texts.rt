@@ -1,4 +1,4 @@
-// How bytes are spelt in a word.
+// How bytes are written in a word.
 ghost use Rattle.std.specs.Prelude.{◌<◌, IfSome};
 
 use crate::line::LineFault;
@@ -7,9 +7,9 @@ use std::alloc::Global;
 /// What a word has next.
 enum Piece {
     Byte(u8),
-    /// The byte behind it stands so many times.
+    /// The byte after it stands so many times.
     Times(usize),
-    /// What stands behind it up to the end of the part stands so many times.
+    /// What follows it up to the end of the part stands so many times.
     Open(usize),
     /// The end of such a part.
     Close,
@@ -27,14 +27,14 @@ fn digit_of(byte: u8) -> Option<u8>
     }
 }
 
-/// A number that a semicolon ends, and what stands behind that.
+/// A number that a semicolon ends, and what follows that.
 fn count_of(rest: &[u8]) -> Option<(usize, &[u8])> {
     let (digits, after) = std::str::from_utf8(rest).ok()?.split_once(';')?;
     let count = digits.parse::<usize>().ok()?;
     Some((count, after.as_bytes()))
 }
 
-/// What the rest of a word has next, and what stands behind that.
+/// What the rest of a word has next, and what follows that.
 fn next_piece(rest: &[u8]) -> Option<(Piece, &[u8])> {
     let (byte, after) = rest.split_first()?;
     if *byte == b'\\' {
@@ -44,7 +44,7 @@ fn next_piece(rest: &[u8]) -> Option<(Piece, &[u8])> {
     }
 }
 
-/// The same where a backslash stands before the rest.
+/// The next bytes of a word after a backslash, and what follows them.
 fn escaped_piece(rest: &[u8]) -> Option<(Piece, &[u8])> {
     let (letter, after) = rest.split_first()?;
     match letter {
@@ -71,7 +71,7 @@ fn byte_piece(rest: &[u8]) -> Option<(Piece, &[u8])> {
     Some((Piece::Byte(byte), after))
 }
 
-/// What a word has spelt so far.
+/// What a word has written so far.
 #[derive(Drop)]
 struct Spelt {
     /// The bytes outside of an unended part.
@@ -140,7 +140,7 @@ impl Spelt {
     }
 }
 
-/// The bytes that a word spells.
+/// The bytes in a word.
 pub fn bytes_of(alloc: Global, word: &str) -> Result<Vec<u8>, LineFault> {
     if word == "\\-" {
         return Ok(Vec::new(alloc));
@@ -158,13 +158,13 @@ pub fn bytes_of(alloc: Global, word: &str) -> Result<Vec<u8>, LineFault> {
     spelt.finish()
 }
 
-/// The text that a word spells, which has to be UTF-8.
+/// The text in a word, which has to be UTF-8.
 pub fn text_of(alloc: Global, word: &str) -> Result<String, LineFault> {
     let bytes = bytes_of(alloc, word)?;
     String::from_utf8(bytes).ok().ok_or(LineFault::NoSuchCall)
 }
 
-/// The texts that words spell.
+/// The texts in words.
 pub fn texts_of(alloc: Global, words: &[&str]) -> Result<Vec<String>, LineFault> {
     let mut texts = Vec::new(alloc);
     for word in words {

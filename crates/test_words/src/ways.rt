@@ -11,9 +11,9 @@ pub struct Ways {
     alloc: Global,
     /// The first way's answer.
     first: Option<Out>,
-    /// The first other answer, behind the way that gave it.
+    /// The first other answer, after the way that gave it.
     other: Option<Out>,
-    /// Whether memory was refused to a way.
+    /// Whether a way was out of memory.
     is_refused: bool,
 }
 
@@ -28,7 +28,7 @@ impl Ways {
         }
     }
 
-    /// One more way, and what it answers, unless memory was refused to it, which is kept.
+    /// One more way, and its answer, unless it was out of memory, which is kept.
     pub fn add_made<W: Display + Drop>(&mut self, way: W, answer: Result<Out, AllocError>) {
         match answer {
             Ok(answer) => self.add(way, answer),
@@ -87,8 +87,8 @@ impl Ways {
         }
     }
 
-    /// Writes the answer, if all ways gave the same one, and else the first other one with its way; and keeps that memory was refused
-    /// to a way.
+    /// Writes the answer, if all ways gave the same one, and else the first other one with its way; and keeps that a way was out of
+    /// memory.
     pub fn push_to(&self, out: &mut Out) {
         if self.is_refused {
             out.refuse();
@@ -100,7 +100,7 @@ impl Ways {
     }
 }
 
-/// Tells that a way gives another answer than the first one.
+/// Says that a way gives another answer than the first one.
 fn differs<W: Display + Drop>(alloc: Global, way: W, answer: &Out) -> Out {
     let mut told = Out::new(alloc);
     told.put(format_args!("differs: {way}: "));

@@ -26,7 +26,7 @@ Leaves bytes old Unread new = new ≡ old
 Leaves bytes old Done new = GoesOn bytes old new
 Leaves bytes old Refused new = GivesUp old new
 
--- a front is unread where the gate said so, and refused for memory; behind one that was read the gate alone may say stop
+-- a front is unread where the gate said so, and refused for memory; after one that was read the gate alone may say stop
 abbrev pub EndsAt : FrontState → Result (Unit {0}) Cause → Type 0
 EndsAt Unread ended = ended ≡ Err Gate
 EndsAt Refused ended = ended ≡ Err Memory

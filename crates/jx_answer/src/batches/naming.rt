@@ -17,8 +17,8 @@ ghost use Rattle.jx_answer.specs.Named.{IsNamed};
 use jx_index::repeated_name;
 use jx_lex::{Depth, Span};
 use jx_run::{
-    ElementVerdict, JudgedElement, NameRule, NoPause, Refusal, Settings, reader_is_grammar,
-    text_has_one_tree,
+    ElementVerdict, JudgedElement, NameRule, NoPause, Refusal, Settings, reader_and_grammar,
+    unique_tree,
 };
 use std::alloc::{AllocError, Global};
 
@@ -65,8 +65,8 @@ fn repeated_there(
     ensures { IfOk result (λ name. (input : List ℕ) (end : ℕ) (tree : Tree) → slice_range input at end ≡ bytes.now → at + length bytes.now < 2 ^ 64
         → IsDocument at bytes.now depth tree → IsLeast (IsRepeat input (rows tree)) name) }
 {
-    reader_is_grammar();
-    text_has_one_tree();
+    reader_and_grammar();
+    unique_tree();
     let end = bytes.len();
     let read = repeated_name(alloc, bytes, Span { start: 0, end }, depth, &mut NoPause)?;
     match read {
@@ -105,7 +105,7 @@ fn bytes_at(part: &[u8], before: usize, span: Span) -> &[u8]
     &part[span.start - before..span.end - before]
 }
 
-/// The same of all elements of a part of the sequence, which follows `before` bytes.
+/// Judges all elements of a part of the sequence by their names too. The part follows `before` bytes.
 pub fn named_elements(
     alloc: Global,
     part: &[u8],

@@ -15,7 +15,7 @@ use crate::bytes::by_names::elements_by_names;
 use crate::bytes::texts::read_text;
 use crate::element::{Element, ElementAnswer};
 use crate::fault::Fault;
-use crate::laws::settings_that_are_off_change_no_answer;
+use crate::laws::answer_with_settings_off;
 use jx_claim::Cutting;
 use jx_crew::{Crew, Gate, Workers};
 use jx_index::Indexed;
@@ -47,12 +47,12 @@ pub fn index_sequence<'a, R: Threads + Wait + Sync, G: Gate + Sync>(
     // For every division, number of workers and gate, these are the answers on the elements of the bytes.
     ensures elements { IfOk result (λ elements. AreElements text.entry.now depth elements.items) }
 {
-    settings_that_are_off_change_no_answer();
+    answer_with_settings_off();
     index_sequence_with(rt, alloc, text, cutting, workers, &depth.into(), gate)
 }
 
-/// The same by settings. Where a byte order mark is ignored, one that stands alone before the first record separator is
-/// no element; a token start in an element is refused as ever. Where names have to be unique, an element that is
+/// Reads a sequence as `index_sequence` does, by settings. An ignored byte order mark alone before the first record separator is
+/// no element; a byte order mark in an element is refused as ever. Where names have to be unique, an element that is
 /// otherwise accepted is refused for the first name that an object repeats.
 pub fn index_sequence_with<'a, R: Threads + Wait + Sync, G: Gate + Sync>(
     rt: &R,
@@ -77,7 +77,7 @@ pub fn index_sequence_with<'a, R: Threads + Wait + Sync, G: Gate + Sync>(
     Ok(elements_by_names(settings.names, elements))
 }
 
-/// The same whatever names the objects have.
+/// Reads a sequence by settings, whatever names the objects have.
 fn index_by_mark<'a, R: Threads + Wait + Sync, G: Gate + Sync>(
     crew: &Crew<'_, R, G>,
     text: &'a [u8],

@@ -9,13 +9,11 @@ ghost use Rattle.jx_index.specs.Settled.{IsAnswerBy, IsAnswerFrom, IsReadBy};
 
 use crate::batches::asking::{Asking, read_pieces};
 use crate::fault::Fault;
-use crate::laws::{any_names_change_nothing, settings_that_are_off_change_no_answer};
+use crate::laws::{answer_with_settings_off, verdict_without_a_rule_on_names};
 use jx_book::{Held, read_whole};
 use jx_claim::Cutting;
 use jx_crew::{Crew, Gate, Workers};
-use jx_index::{
-    Row, TextAnswer, indexes_stand_behind_fronts, rows_from, verdict_with_unique_names,
-};
+use jx_index::{Row, TextAnswer, index_behind_a_front, rows_from, verdict_with_unique_names};
 use jx_lex::Depth;
 use jx_run::{
     Front, NameRule, OutcomeRun, Reader, Refusal, Settings, Summary, TextRun, Verdict, front,
@@ -43,11 +41,11 @@ pub fn index_text<'a, R: Threads + Wait + Sync, G: Gate + Sync>(
     // For every division, number of workers and gate, it is the answer that the standard gives for the bytes.
     ensures answer { IfOk result (λ answer. IsAnswer text.entry.now depth answer) }
 {
-    settings_that_are_off_change_no_answer();
+    answer_with_settings_off();
     index_text_with(rt, alloc, text, cutting, workers, &depth.into(), gate)
 }
 
-/// The same by settings. Where a byte order mark is ignored, one may stand in front of the text. It is skipped here, so
+/// Reads a text as `index_text` does, by settings. An ignored byte order mark may stand in front of the text. It is skipped here, so
 /// the division is of the whole input; offsets count the bytes of the byte order mark. Where names have to be unique, what
 /// is otherwise accepted is refused for the first name that an object repeats.
 pub fn index_text_with<'a, R: Threads + Wait + Sync, G: Gate + Sync>(
@@ -73,7 +71,7 @@ pub fn index_text_with<'a, R: Threads + Wait + Sync, G: Gate + Sync>(
     Ok(answer.by_names(settings.names))
 }
 
-/// The same whatever names the objects have.
+/// Reads a text by settings, whatever names the objects have.
 fn index_behind_front<'a, R: Threads + Wait + Sync, G: Gate + Sync>(
     crew: &Crew<'_, R, G>,
     text: &'a [u8],
@@ -84,7 +82,7 @@ fn index_behind_front<'a, R: Threads + Wait + Sync, G: Gate + Sync>(
     requires front { cutting.now.front ≡ 0 }
     ensures answer { IfOk result (λ answer. IsReadBy settings.now text.entry.now answer) }
 {
-    indexes_stand_behind_fronts();
+    index_behind_a_front();
     match front(text, settings.mark) {
         Front::Refused(refusal) => Ok(TextAnswer::Refused(refusal)),
         Front::Skip(count) => {
@@ -107,7 +105,7 @@ pub fn verdict_of_text<R: Threads + Wait + Sync, G: Gate + Sync>(
     requires front { cutting.now.front ≡ 0 }
     ensures verdict { IfOk result (λ verdict. IsVerdictBy settings.now text.now verdict) }
 {
-    any_names_change_nothing();
+    verdict_without_a_rule_on_names();
     match settings.names {
         NameRule::Any => verdict_whatever_names(crew, text, cutting, settings),
         NameRule::Unique => {
@@ -180,7 +178,7 @@ fn rows_behind_front<R, G: Gate>(
     ensures accepted { IfOk result (λ read. IfOk read (λ rows. AreRowsRead settings.now text.now rows.items)) }
     ensures refused { IfOk result (λ read. IfErr read (λ refusal. JudgedBy settings.now 0 text.now (verdict.Refused refusal))) }
 {
-    indexes_stand_behind_fronts();
+    index_behind_a_front();
     match front(text, settings.mark) {
         Front::Refused(refusal) => Ok(Err(refusal)),
         Front::Skip(count) => {

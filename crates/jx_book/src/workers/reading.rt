@@ -82,8 +82,8 @@ pub fn read_whole<'a, S: Summary + Send, R: Threads + Wait + Sync, G: Gate + Syn
     run
 }
 
-/// The same, while the first worker has an extra task: it takes its first chunk after that, unless the task says stop.
-/// The task is run even when out of memory.
+/// Reads a text as `read_whole` does, while the first worker has an extra task: it takes its first chunk after that, unless the
+/// task says stop. The task is run even when out of memory.
 pub fn read_beside<
     'a,
     S: Summary + Send,
@@ -107,7 +107,7 @@ pub fn read_beside<
     read_with::<S, Brand, Brand, E, R, G>(crew, text, cutting, depth, errand, put, taken)
 }
 
-/// The same, with `blanks` for the ledgers of an accumulator.
+/// Reads a text as `read_beside` does, with `blanks` for the ledgers of an accumulator.
 fn read_with<
     'a,
     S: Summary + Send,

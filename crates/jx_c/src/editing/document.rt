@@ -28,7 +28,7 @@ fn boxed(alloc: Global, text: &[u8], settings: Settings) -> Result<Box<Document>
     }
 }
 
-/// What an edit comes to.
+/// The status of an edit.
 fn status_in(done: Result<(), DocumentFault>) -> u32
     ensures { result ≡ status_in done }
 {
@@ -164,7 +164,7 @@ pub extern "C" fn jx_document_copy_non_null(
     status
 }
 
-/// The same of a document that is there.
+/// Copies the bytes of a document from `start` on, as many as there is room for.
 fn copied(document: &Document, start: usize, bytes: &mut [u8]) -> u32
     ensures copied { result ≡ OK → bytes.new ≡ slice_range document.now.bytes start (start + length bytes.old) }
     ensures inside { start + length bytes.old ≤ length document.now.bytes → (result ≡ OK) ⊎ (result ≡ NO_MEMORY) }

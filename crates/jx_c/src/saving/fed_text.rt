@@ -6,9 +6,9 @@ ghost use Rattle.jx_run.specs.declared.texts.settings.Settings.{Settings};
 ghost use Rattle.jx_run.specs.declared.texts.verdict.Verdict.TheVariants.{Refused};
 ghost use Rattle.jx_c.specs.Saves.{IsFedText, IsSavedOf};
 
+use jx_file_build::{Indexer, NamesIfAsked};
+use jx_file_index::{ChunkSize, SavedText};
 use jx_run::{Refusal, Settings};
-use jx_saved::{ChunkSize, Indexer};
-use jx_saved_names::{NamesIfAsked, SavedText};
 use std::alloc::{AllocError, Global};
 
 /// A text that has not ended.
@@ -30,7 +30,7 @@ impl FedText {
         }
     }
 
-    /// Reads a slice behind all bytes that it was fed. `Err` where memory is refused.
+    /// Reads a slice after all bytes that it was fed. `Err` when out of memory.
     pub fn feed(&mut self, slice: &[u8]) -> Result<(), AllocError>
         ensures { OnOk result ((has_names : Bool) (settings : Settings) (chunk : ℕ) (bytes : List ℕ) → IsFedText has_names settings chunk bytes self.old
             → IsFedText has_names settings chunk (bytes ++ slice.now) self.new) }
@@ -39,7 +39,7 @@ impl FedText {
         self.names.feed(slice)
     }
 
-    /// What is saved of the text that it was fed, or why it is none. `Err` where memory is refused.
+    /// The index of the text that it was fed, or why that is not valid JSON. `Err` when out of memory.
     pub fn finish(self) -> Result<Result<SavedText, Refusal>, AllocError>
         ensures saved { IfOk result (λ read. IfOk read (λ saved. (has_names : Bool) (settings : Settings) (chunk : ℕ) (text : List ℕ) → IsFedText has_names settings chunk text self
             → IsSavedOf has_names settings chunk text saved)) }

@@ -2,16 +2,16 @@
 ghost use Rattle.std.specs.Prelude.{◌≡◌, ◌⊎◌, ◌<◌, ◌≤◌, ◌/◌, None, Some, ℕ, List, length, IfErr, IfOk, IfSome, true, false};
 ghost use Rattle.jx_run.specs.declared.texts.settings.Settings.{Settings};
 ghost use Rattle.jx_summary.specs.declared.span.Span.{Span};
-ghost use Rattle.jx_saved.specs.Spelling.{front_flags};
-ghost use Rattle.jx_saved_names.specs.declared.saved_text.SavedText.{SavedText};
-ghost use Rattle.jx_saved_names.specs.Saved.{IsSavableToo};
-ghost use Rattle.jx_saved_names.specs.Spelling.{spelt_saved};
-ghost use Rattle.jx_split.specs.Parts.{IsIn, parts_of};
+ghost use Rattle.jx_file_index.specs.Spelling.{front_flags};
+ghost use Rattle.jx_file_index.specs.declared.saved_text.SavedText.{SavedText};
+ghost use Rattle.jx_file_index.specs.SavedTexts.{IsSavableToo};
+ghost use Rattle.jx_file_index.specs.TextSpelling.{spelt_saved};
+ghost use Rattle.jx_file_query.specs.Parts.{IsIn, parts_of};
 ghost use Rattle.jx_run.specs.Laws.{span_of};
 ghost use Rattle.jx_run.specs.Tree.{Tree};
-ghost use Rattle.jx_split.specs.Paused as paused_split;
-ghost use Rattle.jx_walk.specs.Paused as paused_walk;
-ghost use Rattle.jx_walk.specs.Walk as walks;
+ghost use Rattle.jx_file_query.specs.PausedSplits as paused_split;
+ghost use Rattle.jx_file_query.specs.PausedWalks as paused_walk;
+ghost use Rattle.jx_file_query.specs.Walk as walks;
 ghost use Rattle.jx_c.specs.Buffers.{IsFilled};
 ghost use Rattle.jx_c.specs.Indexes.{AreAnswersOf};
 ghost use Rattle.jx_c.specs.Opened.{AreAnswersIn, AreOthers, ArePartsIn, HasNoSuchContainer, HasWalked, IsALookUp, IsASplit, IsChunk, IsGiven, IsKeptOf, IsLedOn, IsNoChunk, IsOfNoText, IsOfNone, IsOpened, IsRefused, IsSeeking, IsSought, IsSplit, IsWithin, aim_in, any_names, chunk_with, idle, needed, shown_part, shown_text, status_of};
@@ -26,29 +26,29 @@ use crate::shapes::status::{
 };
 use crate::texts::all::{JxPointer, answer_all, pointers_of};
 use crate::texts::look_up::JxAnswer;
+use jx_file_index::{Index, SavedFault, SavedText};
+use jx_file_query::{
+    Aim, ContainerPart, PausedSplit, PausedWalk, Split, Walk, WalkFault, chunk_at, is_kept,
+};
 use jx_lex::Span;
 use jx_run::{FrontMark, NameRule, Settings};
-use jx_saved::{Index, SavedFault};
-use jx_saved_names::SavedText;
-use jx_split::{Aim, ContainerPart, PausedSplit, Split};
-use jx_walk::{PausedWalk, Walk, WalkFault, chunk_at, is_kept};
 use std::alloc::{AllocError, Global};
 use std::mem::replace;
 
-/// Children of a container, one behind another.
+/// Children of a container, one after another.
 #[repr(C)]
 #[derive(Clone, Copy)]
 pub struct JxPart {
-    /// From behind the comma or the bracket before its first child, up to the one behind its last.
+    /// From after the comma or the bracket before its first child, up to the one after its last.
     pub span: JxSpan,
     /// Which part of the container's bytes it is, counted from 0.
     pub number: usize,
-    /// Its first child, counted from 0 in the container, and the one behind its last.
+    /// Its first child, counted from 0 in the container, and the one after its last.
     pub first: usize,
     pub end: usize,
 }
 
-/// What a saved index says of its text.
+/// The sizes and settings of the text of a saved index.
 #[repr(C)]
 #[derive(Clone, Copy)]
 pub struct JxSavedText {
@@ -63,7 +63,7 @@ pub struct JxSavedText {
 /// Into at most so many parts a container is split.
 const MOST_PARTS: usize = 65536;
 
-/// What goes on by an index. C leaves pointers as they are until a look-up ends: to the library, for ever.
+/// A look-up or a split by an index. C leaves pointers as they are until a look-up ends: to the library, for ever.
 #[derive(Drop)]
 pub enum IndexWork {
     Nothing,
@@ -74,14 +74,14 @@ pub enum IndexWork {
     Splitting(PausedSplit),
 }
 
-/// An index, the tables of names that stand behind it, if there are any, and what goes on by it.
+/// An index, the tables of names that follow it, if there are any, and what goes on by it.
 #[derive(Drop)]
 pub struct OpenedIndex {
     pub saved: SavedText,
     pub work: IndexWork,
 }
 
-/// What giving bytes comes to: a status, and what goes on.
+/// The result of giving bytes: a status, and what goes on.
 #[derive(Drop)]
 struct Given {
     work: IndexWork,
@@ -245,7 +245,7 @@ fn answers_of(
     }
 }
 
-/// Ends a split: puts the parts into the buffer, as many as that has room for, and tells how many there are.
+/// Ends a split: puts the parts into the buffer, as many as that has room for, and their number into `count`.
 fn parts_of(index: &Index, split: PausedSplit, parts: &mut [JxPart], count: &mut usize) -> u32
     requires { paused_split.needed_by index.now split ≡ None }
     ensures parts { result ≡ OK → (settings : Settings) (chunk : ℕ) (text : List ℕ) (container : Tree) → paused_split.HasPaused settings chunk text index.now split → IsIn settings text container
@@ -306,7 +306,7 @@ fn may_be_split(whole: JxSpan, parts: usize, size: usize) -> bool
 }
 
 impl OpenedIndex {
-    /// An index of a text of this size, by its bytes, and the tables of names behind it, if there are any.
+    /// An index of a text of this size, by its bytes, and the tables of names after it, if there are any.
     pub fn read(alloc: Global, bytes: &[u8], size: usize) -> Result<OpenedIndex, u32>
         ensures opened { IfOk result (IsOpened bytes.now size) }
         ensures refused { IfErr result (IsRefused bytes.now size) }
@@ -327,7 +327,7 @@ impl OpenedIndex {
         }
     }
 
-    /// What the index says of its text.
+    /// The sizes and settings of the text.
     pub fn text(&self) -> JxSavedText
         ensures { result ≡ shown_text self.now.saved.index }
     {
@@ -462,7 +462,7 @@ impl OpenedIndex {
         chunk_at(&self.saved.index, at / self.saved.index.chunk.bytes())
     }
 
-    /// Whether bytes are those of the chunk with the byte at an offset, as far as their digest tells.
+    /// Whether bytes are those of the chunk with the byte at an offset, by their checksum.
     pub fn check(&self, at: usize, bytes: &[u8]) -> u32
         ensures kept { (span : Span) → chunk_with self.now.saved.index at ≡ Some span → result ≡ OK → IsChunk self.now.saved.index span bytes.now }
         ensures changed { (span : Span) → chunk_with self.now.saved.index at ≡ Some span → result ≡ CHANGED → IsNoChunk self.now.saved.index span bytes.now }

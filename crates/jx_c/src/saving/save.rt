@@ -3,7 +3,7 @@
 ghost use Rattle.std.specs.Prelude.{◌≡◌, ◌⊎◌, ◌<◌, ◌≤◌, [], ℕ, Vec, IfOk, None, Some, false, length, true};
 ghost use Rattle.std.specs.declared.alloc.Global.{Global};
 ghost use Rattle.jx_run.specs.declared.texts.settings.NameRule.TheVariants.{Any};
-ghost use Rattle.jx_saved.specs.Chunks.{IsChunkSize};
+ghost use Rattle.jx_file_index.specs.Chunks.{IsChunkSize};
 ghost use Rattle.jx_c.specs.Compact.{IsPlaced};
 ghost use Rattle.jx_c.specs.Saves.{HasEnded, HasRead, IsBegun, IsEndOf, IsFed};
 ghost use Rattle.jx_c.specs.Settings.{settings_in};
@@ -21,8 +21,8 @@ use crate::shapes::status::{
 };
 use crate::shapes::unboxed::sent;
 use crate::shapes::verdict::{JxVerdict, shown};
+use jx_file_index::ChunkSize;
 use jx_run::{NameRule, Settings, Verdict};
-use jx_saved::ChunkSize;
 use std::alloc::{AllocError, Global};
 
 /// A text of which no byte was fed.
@@ -94,7 +94,7 @@ pub extern "C" fn jx_save_new_non_null(
     begin(alloc, settings, chunk, false, save)
 }
 
-/// The same for an index with tables of the text's names behind it.
+/// Begins a text by settings, for an index with tables of the text's names after it.
 #[unsafe(no_mangle)]
 pub extern "C" fn jx_save_new_with_names_non_null(
     alloc: Global,
@@ -113,7 +113,7 @@ pub extern "C" fn jx_save_new_with_names_non_null(
     begin(alloc, settings, chunk, true, save)
 }
 
-/// Reads the bytes behind all that the text was fed. After want of memory the struct holds no text.
+/// Reads the bytes after all that the text was fed. When out of memory the struct is empty afterwards.
 #[unsafe(no_mangle)]
 pub extern "C" fn jx_save_feed_non_null(alloc: Global, save: &mut JxSave, bytes: &[u8]) -> u32
     ensures none { save.old.held ≡ None → result ≡ NO_SAVE }
@@ -176,7 +176,7 @@ pub extern "C" fn jx_save_end_non_null(
     }
 }
 
-/// Copies the bytes of the index into the buffer, if that has room for them, and tells their size. They wait on.
+/// Copies the bytes of the index into the buffer, if that has room for them, and puts their number into `size`. They wait on.
 #[unsafe(no_mangle)]
 pub extern "C" fn jx_save_take_non_null(
     alloc: Global,

@@ -2,9 +2,9 @@
 // back. The calls of the C header have these names without `_non_null`, and answer null pointers.
 ghost use Rattle.std.specs.Prelude.{◌≡◌, ◌⊎◌, ◌<◌, ◌≤◌, IfOk, IfErr, None, Some};
 ghost use Rattle.jx_summary.specs.declared.span.Span.{Span};
-ghost use Rattle.jx_saved_names.specs.declared.saved_text.SavedText.{SavedText};
-ghost use Rattle.jx_saved_names.specs.Saved.{IsSavableToo};
-ghost use Rattle.jx_saved_names.specs.Spelling.{spelt_saved};
+ghost use Rattle.jx_file_index.specs.declared.saved_text.SavedText.{SavedText};
+ghost use Rattle.jx_file_index.specs.SavedTexts.{IsSavableToo};
+ghost use Rattle.jx_file_index.specs.TextSpelling.{spelt_saved};
 ghost use Rattle.jx_c.specs.Opened.{AreAnswersIn, AreOthers, ArePartsIn, HasNoSuchContainer, IsALookUp, IsASplit, IsChunk, IsGiven, IsHeld, IsNoChunk, IsOfNoText, IsOfNone, IsOpened, IsRefused, IsSought, IsSplit, IsWithin, aim_in, chunk_with, idle, needed, shown_need, shown_text};
 ghost use Rattle.jx_c.specs.Rows.{shown_span};
 ghost use Rattle.jx_c.specs.declared.saving.opened.IndexWork.TheVariants.{Nothing};
@@ -22,7 +22,7 @@ use crate::texts::look_up::JxAnswer;
 use jx_lex::Span;
 use std::alloc::Global;
 
-/// The index that bytes spell of a text of this size, or the status where they spell none.
+/// The index in these bytes, of a text of this size, or the status where they have none.
 fn boxed(alloc: Global, bytes: &[u8], size: usize) -> Result<Box<OpenedIndex>, u32>
     ensures opened { IfOk result (λ whole. IsOpened bytes.now size whole.value) }
     ensures refused { IfErr result (IsRefused bytes.now size) }
@@ -59,7 +59,7 @@ pub extern "C" fn jx_saved_open_non_null(
     }
 }
 
-/// What the index says of its text.
+/// Gives the sizes and settings of the text.
 #[unsafe(no_mangle)]
 pub extern "C" fn jx_saved_about_non_null(
     alloc: Global,
@@ -171,7 +171,7 @@ pub extern "C" fn jx_saved_give_non_null(alloc: Global, saved: &mut JxSaved, byt
     status
 }
 
-/// Ends the look-up: what each pointer leads to in the text, as `jx_at` tells it, as many answers as the buffer has room for.
+/// Ends the look-up: the value of each pointer in the text, as by `jx_at`, as many answers as the buffer has room for.
 #[unsafe(no_mangle)]
 pub extern "C" fn jx_saved_answers_non_null(
     alloc: Global,
@@ -251,7 +251,7 @@ pub extern "C" fn jx_saved_chunk_non_null(
     status
 }
 
-/// Whether bytes are those of the chunk with the byte at an offset, as far as their digest tells.
+/// Whether bytes are those of the chunk with the byte at an offset, by their checksum.
 #[unsafe(no_mangle)]
 pub extern "C" fn jx_saved_check_non_null(
     alloc: Global,

@@ -67,7 +67,7 @@ impl Saver {
         }
     }
 
-    /// Reads the bytes behind all that it was fed.
+    /// Reads the bytes after all that it was fed.
     pub fn feed(&mut self, bytes: &[u8]) -> u32
         ensures read { result ≡ OK → (has_names : Bool) (settings : Settings) (chunk : ℕ) (text : List ℕ) → HasRead has_names settings chunk text self.old
             → HasRead has_names settings chunk (text ++ bytes.now) self.new }

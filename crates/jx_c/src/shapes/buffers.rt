@@ -2,7 +2,7 @@
 ghost use Rattle.std.specs.Prelude.{◌≡◌};
 ghost use Rattle.jx_c.specs.Buffers.{IsFilled};
 
-/// What has another form for C.
+/// A value that has another form for C.
 pub trait Seen: Copy {
     type Form: Copy;
 

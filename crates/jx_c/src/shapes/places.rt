@@ -24,7 +24,7 @@ pub struct JxRow {
     pub name: JxSpan,
     /// The number of the row of the array or object that it stands in; the greatest number for the root.
     pub parent: usize,
-    /// How many values stand before it in its parent; 0 for the root.
+    /// How many values are before it in its parent; 0 for the root.
     pub place: usize,
     pub kind: u32,
 }

@@ -9,7 +9,7 @@ use jx_run::{FrontMark, NameRule, Settings};
 /// The sum of all flags that there are: 1 lets a byte order mark be ignored, 2 has names be unique.
 const ALL_FLAGS: u32 = 3;
 
-/// What a call is told besides the bytes.
+/// The settings of a call.
 #[repr(C)]
 #[derive(Clone, Copy)]
 pub struct JxSettings {
@@ -19,7 +19,7 @@ pub struct JxSettings {
     pub flags: u32,
 }
 
-/// What becomes of a byte order mark, by the sum of the flags: it is ignored where the sum is odd.
+/// The rule for a byte order mark, by the sum of the flags: it is ignored where the sum is odd.
 fn mark_in(flags: u32) -> FrontMark
     ensures { result ≡ mark_in flags }
 {

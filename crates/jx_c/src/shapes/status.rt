@@ -3,7 +3,7 @@
 /// The call did what it is for.
 pub const OK: u32 = 0;
 
-/// A growth of memory was refused.
+/// An allocation failed.
 pub const NO_MEMORY: u32 = 1;
 
 /// The depth is above 65,535.
@@ -12,7 +12,7 @@ pub const DEPTH_TOO_GREAT: u32 = 2;
 /// The reader was not started.
 pub const NOT_STARTED: u32 = 3;
 
-/// With these bytes the reader would have been fed more bytes than 64 bits can count, or a part would end at 2^64 or behind.
+/// With these bytes the reader would have been fed more bytes than 64 bits can count, or a part would end at 2^64 or after.
 pub const TOO_MANY_BYTES: u32 = 4;
 
 /// The settings have an unknown flag.
@@ -21,7 +21,7 @@ pub const UNKNOWN_FLAG: u32 = 5;
 /// The settings ask for unique names, and a reader or a document keeps none.
 pub const NO_UNIQUE_NAMES: u32 = 6;
 
-/// The range ends before it starts, or behind the document's last byte; or there is no row with the number.
+/// The range ends before it starts, or after the document's last byte; or there is no row with the number.
 pub const OUT_OF_BOUNDS: u32 = 7;
 
 /// The struct holds no document.
@@ -51,7 +51,7 @@ pub const NO_FINDER: u32 = 17;
 /// The struct holds no stream of values.
 pub const NO_VALUES: u32 = 18;
 
-/// The bytes spell no pointer (RFC 6901, section 3).
+/// The bytes are not a pointer (RFC 6901, section 3).
 pub const NOT_A_POINTER: u32 = 19;
 
 /// The bytes do not begin as a saved index does.
@@ -63,13 +63,13 @@ pub const OTHER_VERSION: u32 = 21;
 /// The bytes of the saved index end too early.
 pub const CUT_SHORT: u32 = 22;
 
-/// The saved index is of no text.
+/// The saved index is not that of any text.
 pub const DAMAGED: u32 = 23;
 
-/// A field of the saved index is none that an index has.
+/// A field of the saved index has a value that no index has.
 pub const MALFORMED: u32 = 24;
 
-/// Bytes stand behind the saved index.
+/// Bytes follow the saved index.
 pub const MORE_BYTES: u32 = 25;
 
 /// The saved index is of a text of another size.
@@ -81,7 +81,7 @@ pub const CHANGED: u32 = 27;
 /// The struct holds no saved index.
 pub const NO_SAVED: u32 = 28;
 
-/// The struct holds no text whose index is made.
+/// The struct has no saver.
 pub const NO_SAVE: u32 = 29;
 
 /// A chunk cannot have so many bytes.

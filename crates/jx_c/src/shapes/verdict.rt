@@ -15,7 +15,7 @@ const TOO_DEEP: u32 = 3;
 /// The name at the offset is that of an earlier member of its object, and names have to be unique. The numbers 4 and 5 are for elements.
 const REPEATED_NAME: u32 = 6;
 
-/// What reading a text comes to.
+/// The verdict on a text.
 #[repr(C)]
 #[derive(Clone, Copy)]
 pub struct JxVerdict {

@@ -62,7 +62,7 @@ pub extern "C" fn jx_finder_new_non_null(
     }
 }
 
-/// Reads the bytes behind all that the look-up was fed. After want of memory the struct holds no look-up.
+/// Reads the bytes after all that the look-up was fed. When out of memory the struct is empty afterwards.
 #[unsafe(no_mangle)]
 pub extern "C" fn jx_finder_feed_non_null(alloc: Global, finder: &mut JxFinder, bytes: &[u8]) -> u32
     ensures none { finder.old.held ≡ None → result ≡ NO_FINDER }
@@ -88,7 +88,7 @@ pub extern "C" fn jx_finder_feed_non_null(alloc: Global, finder: &mut JxFinder, 
     }
 }
 
-/// Ends the look-up: what each pointer leads to in the text of all bytes that it was fed, as `jx_at` tells it, as many answers as
+/// Ends the look-up: the value of each pointer in the text of all bytes that it was fed, as by `jx_at`, as many answers as
 /// the buffer has room for. The struct holds no look-up afterwards.
 #[unsafe(no_mangle)]
 pub extern "C" fn jx_finder_end_non_null(

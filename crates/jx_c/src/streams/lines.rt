@@ -25,7 +25,7 @@ use std::alloc::{AllocError, Global};
 /// It is a text that may be the beginning of a longer one.
 const MAY_BE_CUT: u32 = 4;
 
-/// It has no byte, or blanks alone.
+/// It has no byte, or white space alone.
 const BLANK: u32 = 7;
 
 /// A line.
@@ -36,7 +36,7 @@ pub struct JxLine {
     pub number: usize,
     /// Where it stands, without its line feed.
     pub span: JxSpan,
-    /// What it comes to; offsets count from the input's start.
+    /// Its verdict; offsets count from the input's start.
     pub verdict: JxVerdict,
 }
 
@@ -46,13 +46,13 @@ pub struct JxLine {
 pub struct JxLineCounts {
     /// Those that are texts.
     pub accepted: usize,
-    /// Those that are none, and those that may be cut.
+    /// Those that are not valid JSON, and those that may be cut.
     pub refused: usize,
-    /// Those that have no byte, or blanks alone.
+    /// Those that have no byte, or white space alone.
     pub blank: usize,
 }
 
-/// What a line comes to, as C sees it.
+/// The verdict on a line, as C sees it.
 fn shown_line_verdict(verdict: LineVerdict) -> JxVerdict
     ensures { result ≡ shown_line_verdict verdict }
 {
@@ -146,7 +146,7 @@ pub extern "C" fn jx_lines_new_non_null(
     }
 }
 
-/// Reads the bytes behind all that the reader was fed. After want of memory the struct holds no reader.
+/// Reads the bytes after all that the reader was fed. When out of memory the struct is empty afterwards.
 #[unsafe(no_mangle)]
 pub extern "C" fn jx_lines_feed_non_null(alloc: Global, lines: &mut JxLines, bytes: &[u8]) -> u32
     ensures none { lines.old.held ≡ None → result ≡ NO_LINES }
@@ -172,7 +172,7 @@ pub extern "C" fn jx_lines_feed_non_null(alloc: Global, lines: &mut JxLines, byt
     }
 }
 
-/// Moves the lines that wait into the buffer, if that has room for all, and tells how many there are.
+/// Moves the lines that wait into the buffer, if that has room for all, and puts their number into `count`.
 fn move_out(whole: &mut LineTally, bad: &mut [JxLine], count: &mut usize) -> u32
     ensures count { count.new ≡ length whole.old.waiting }
     ensures filled { result ≡ OK → IsFilled shown_line bad.old bad.new whole.old.waiting }
@@ -195,7 +195,7 @@ fn move_out(whole: &mut LineTally, bad: &mut [JxLine], count: &mut usize) -> u32
     OK
 }
 
-/// Moves the lines that are no texts, and were not moved before, into the buffer: all of them, where it has room. It takes no
+/// Moves the lines that are not valid JSON, and were not moved before, into the buffer: all of them, where it has room. It takes no
 /// memory.
 #[unsafe(no_mangle)]
 pub extern "C" fn jx_lines_take_non_null(
@@ -220,7 +220,7 @@ pub extern "C" fn jx_lines_take_non_null(
     status
 }
 
-/// What is left to tell if the input ends here: the last line, where no line feed ends it and it is no text, and how many lines
+/// Reports what is left if the input ends here: the last line, where no line feed ends it and it is not valid JSON, and how many lines
 /// there are. More bytes may be fed. It takes no memory.
 #[unsafe(no_mangle)]
 pub extern "C" fn jx_lines_end_non_null(

@@ -15,13 +15,13 @@ use crate::shapes::status::{
 use crate::shapes::verdict::{JxVerdict, shown};
 use crate::streams::stack::JxStack;
 use crate::streams::states::{number_of, state_at};
-use jx_index::names_are_refused_by_rows;
+use jx_index::repeated_name_by_rows;
 use jx_run::{
     NameRule, OpenStack, Progress, Settings, Verdict, progress_at_start, read_on, verdict_at,
 };
 use std::alloc::AllocError;
 
-/// What stands in a reader that was started: the letters "jxreader".
+/// The value in a reader that was started: the letters "jxreader".
 const STARTED: u64 = 0x6A78_7265_6164_6572;
 
 const GOING: u32 = 0;
@@ -39,13 +39,13 @@ const FAILED: u32 = 4;
 #[repr(C)]
 #[derive(Drop)]
 pub struct JxReader {
-    /// Tells a reader that was started from one that was not.
+    /// Differs in a reader that was started and one that was not.
     pub started: u64,
     /// How many bytes it was fed.
     pub count: usize,
     /// The offset of the fault, or how many bytes of a byte order mark it was fed.
     pub at: usize,
-    /// How far it is: 0 while there is no fault, 1 where no text goes on, 2 where it is too deep, 3 while a byte order mark
+    /// How far it is: 0 while there is no fault, 1 where it stopped, 2 where it is too deep, 3 while a byte order mark
     /// may yet be ignored.
     pub progress: u32,
     /// The lexical state, by its number among all.
@@ -127,14 +127,14 @@ impl JxReader {
         }
     }
 
-    /// Reads the slice behind all bytes that it was fed. Nothing refuses memory.
+    /// Reads the slice after all bytes that it was fed. Nothing refuses memory.
     pub fn feed(&mut self, slice: &[u8]) -> Result<(), AllocError>
         requires fits { self.old.count + length slice.now < 2 ^ 64 }
         ensures { OnOk result ((settings : Settings) (fed : List ℕ) → HasRead settings fed self.old → HasRead settings (fed ++ slice.now) self.new) }
     {
         let progress = self.progress();
         if matches!(progress, Progress::Failed) {
-            // Numbers that C wrote: no reader of bytes comes to them. What it is fed is counted.
+            // Numbers that C wrote: no reader of bytes has them. What it is fed is counted.
             self.count += slice.len();
             return Ok(());
         }
@@ -172,7 +172,7 @@ pub extern "C" fn jx_reader_start_non_null(reader: &mut JxReader, settings: &JxS
     OK
 }
 
-/// Reads the bytes behind all that the reader was fed.
+/// Reads the bytes after all that the reader was fed.
 #[unsafe(no_mangle)]
 pub extern "C" fn jx_reader_feed(reader: &mut JxReader, bytes: &[u8]) -> u32
     ensures reads { result ≡ OK → (settings : Settings) (fed : List ℕ) → HasRead settings fed reader.old → HasRead settings (fed ++ bytes.now) reader.new }
@@ -205,7 +205,7 @@ pub extern "C" fn jx_reader_verdict(reader: &JxReader, verdict: &mut JxVerdict) 
     if reader.started != STARTED {
         return NOT_STARTED;
     }
-    names_are_refused_by_rows();
+    repeated_name_by_rows();
     *verdict = shown(reader.verdict());
     OK
 }

@@ -56,7 +56,7 @@ impl Seeking {
         self.finder.end()
     }
 
-    /// Reads the bytes behind all that it was fed.
+    /// Reads the bytes after all that it was fed.
     pub fn feed(&mut self, bytes: &[u8]) -> Result<(), AllocError>
         requires fits { end_of self.old + length bytes.now < 2 ^ 64 }
         ensures sought { OnOk result ((settings : Settings) (pointers : List JxPointer) (text : List ℕ) → HasSought settings pointers text self.old

@@ -1,4 +1,4 @@
-// The moves over marks from the start of a text, in a struct of fixed size that C holds.
+// The moves over token starts from the start of a text, in a struct of fixed size that C holds.
 //
 // Each of its fields may hold any number, since C may hand anything over: what they mean is said for all of them.
 ghost use Rattle.std.specs.Prelude.{◌≡◌, ◌-◌, ◌/◌, ◌%◌, ◌<◌, ◌↔◌, ◌++◌, ◌∷◌, [], List, IsTrue, length};
@@ -13,19 +13,19 @@ ghost use Rattle.jx_c.specs.Stack.{code_of, stage_in, holders_of, known_of};
 
 use jx_lex::{Mark, MarkKind, TokenSink};
 use jx_reduce::{Containers, Expect, Holder, Innermost, Whole, next, pass_tokens};
-use jx_run::{OpenStack, readings_go_on};
+use jx_run::{OpenStack, readings_after_a_fault};
 use std::alloc::AllocError;
 
 /// Half of what a word counts to.
 const HALF: u64 = 0x8000_0000_0000_0000;
 
-/// The stage behind a mark that the table of moves does not allow.
+/// The stage after a token start that the table of moves does not allow.
 const STOPPED: u32 = 6;
 
-/// The stage behind a mark that opens one container more than the depth.
+/// The stage after a token start that opens one container more than the depth.
 const TOO_DEEP: u32 = 7;
 
-/// What may stand next, or which fault was met.
+/// The expectation, or which fault was met.
 #[derive(Clone, Copy)]
 pub enum Stage {
     Going(Expect),
@@ -33,8 +33,8 @@ pub enum Stage {
     TooDeep,
 }
 
-/// What marks come to from the start of a text (RFC 8259, sections 2 to 5). The open containers are bits, an array 0 and
-/// an object 1: 64 of them fill a word, and those that fill none yet are held apart, the innermost lowest.
+/// Where token starts lead from the start of a text (RFC 8259, sections 2 to 5). The open containers are bits, an array 0 and
+/// an object 1: 64 of them fill a word, and those that fill none yet are kept apart, the innermost lowest.
 #[repr(C)]
 #[derive(Drop)]
 pub struct JxStack {
@@ -42,7 +42,7 @@ pub struct JxStack {
     pub bits: u64,
     /// The offset of the fault.
     pub at: usize,
-    /// What may stand next, from 0 to 5; 6 behind a mark that may not stand there, and more behind one that is too deep.
+    /// The expectation, from 0 to 5; 6 after a token start that is not allowed, and more after one that is too deep.
     pub stage: u32,
     /// How many containers may stand open at once.
     pub depth: u16,
@@ -133,7 +133,7 @@ impl JxStack {
         self.count = 0;
     }
 
-    /// The full words, and what stands behind them.
+    /// The full words, and the word that follows them.
     #[inline(always)]
     fn words(&self) -> &[u64]
         ensures same { result.now ≡ self.now.words }
@@ -221,7 +221,7 @@ impl JxStack {
         }
     }
 
-    /// Opens a container where the depth allows it; else the mark is too deep.
+    /// Opens a container where the depth allows it; else the token start is too deep.
     #[inline(always)]
     fn enter(&mut self, holder: Holder, expect: Expect, at: usize)
         requires { holder ≡ Holder.Bottom → ⊥ }
@@ -237,7 +237,7 @@ impl JxStack {
         }
     }
 
-    /// The move at one mark. Behind a fault no mark changes anything.
+    /// The move at one token start. After a fault no token start changes anything.
     #[inline(always)]
     fn step(&mut self, mark: Mark)
         ensures depth { self.new.depth ≡ self.old.depth }
@@ -260,7 +260,7 @@ impl JxStack {
         self.stage = code_of(then);
     }
 
-    /// One more mark.
+    /// Takes one more token start.
     #[inline(always)]
     fn take(&mut self, mark: Mark)
         ensures depth { self.new.depth ≡ self.old.depth }
@@ -343,7 +343,7 @@ impl TokenSink for JxStack {
 
     #[inline(always)]
     fn is_done(&self) -> bool {
-        readings_go_on();
+        readings_after_a_fault();
         self.is_faulty()
     }
 

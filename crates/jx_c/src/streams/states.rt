@@ -2,13 +2,13 @@
 ghost use Rattle.std.specs.Prelude.{◌≡◌, slice_index_or};
 ghost use Rattle.jx_c.specs.Reader.{state_in};
 
-use jx_lex::{LexState, states_stand_in_order};
+use jx_lex::{LexState, state_ordinals};
 
 /// The number of a state among all of them.
 pub fn number_of(state: LexState) -> u32
     ensures { state_in result ≡ state }
 {
-    states_stand_in_order();
+    state_ordinals();
     state.number() as u32
 }
 

@@ -17,7 +17,7 @@ use jx_run::{Refusal, Settings, Verdict};
 use std::alloc::{AllocError, Global};
 use std::marker::Model;
 
-/// What the pointer to a container came to.
+/// Where the pointer to a container leads.
 #[repr(C)]
 #[derive(Clone, Copy)]
 pub struct JxOutcome {
@@ -43,7 +43,7 @@ fn outcome_of_fault(fault: FindFault) -> JxOutcome
     outcome_of(shown_look_up(LookUp::Lost(fault)))
 }
 
-/// Of bytes that are no text.
+/// The outcome of bytes that are not valid JSON.
 fn outcome_of_refusal(refusal: Refusal) -> JxOutcome
     ensures { result ≡ outcome_of_refusal refusal }
 {
@@ -137,7 +137,7 @@ fn list_of(alloc: Global, pointer: &'static str) -> Result<Vec<Pointer<'static>>
     Ok(all)
 }
 
-/// A look-up of the pointer that was fed no byte; none of one that leads to the root, which is told without it.
+/// A look-up of the pointer that was fed no byte; none for the pointer to the root, which needs no look-up.
 fn sought_at_start(
     alloc: Global,
     settings: &Settings,
@@ -155,7 +155,7 @@ fn sought_at_start(
     Ok(Some(finder))
 }
 
-/// Looks up in the bytes behind all that were fed. Memory is refused too where the last byte has no offset.
+/// Looks up in the bytes after all that were fed. It is also out of memory where the last byte has no offset.
 fn seek(sought: &mut Option<Finder<'static>>, bytes: &[u8]) -> Result<(), AllocError>
     ensures { OnOk result ((settings : Settings) (pointer input : List ℕ) → HasSought settings pointer input sought.old → HasSought settings pointer (input ++ bytes.now) sought.new) }
 {
@@ -170,7 +170,7 @@ fn seek(sought: &mut Option<Finder<'static>>, bytes: &[u8]) -> Result<(), AllocE
     }
 }
 
-/// A text that is fed, the lines of the values that are due of it, and what the pointer comes to. C leaves the pointer as it is
+/// A text that is fed, the lines of the values that are due of it, and where the pointer leads. C leaves the pointer as it is
 /// until the stream ends: to the library, for ever.
 #[derive(Drop)]
 pub struct ValueStream {
@@ -192,7 +192,7 @@ impl Model for ValueStream {
 }
 
 impl ValueStream {
-    /// A stream that was fed no byte, by a pointer as it is spelt.
+    /// A stream that was fed no byte, for a pointer.
     pub fn new(
         alloc: Global,
         settings: &Settings,
@@ -214,7 +214,7 @@ impl ValueStream {
         self.each.end()
     }
 
-    /// Reads the bytes behind all that it was fed.
+    /// Reads the bytes after all that it was fed.
     pub fn feed(&mut self, bytes: &[u8]) -> Result<(), AllocError>
         requires fits { end_of self.old + length bytes.now < 2 ^ 64 }
         ensures streamed { OnOk result ((settings : Settings) (pointer input given : List ℕ) → HasStreamed settings pointer input given self.old
@@ -240,7 +240,7 @@ impl ValueStream {
         self.each.clear_ready();
     }
 
-    /// What the pointer came to in all bytes that it was fed.
+    /// Where the pointer leads in all bytes that it was fed.
     pub fn outcome(self) -> Result<JxOutcome, AllocError>
         ensures { IfOk result (λ outcome. (settings : Settings) (pointer input given : List ℕ) → HasStreamed settings pointer input given self → IsOutcomeOf settings pointer input outcome) }
     {

@@ -18,12 +18,12 @@ use crate::shapes::unboxed::sent;
 use crate::streams::held_values::JxValues;
 use crate::streams::stream::{JxOutcome, ValueStream};
 use crate::texts::look_up::spelt;
-use jx_each::what_is_taken_is_due;
+use jx_each::lines_taken_and_waiting;
 use jx_run::{NameRule, Settings};
 use std::alloc::{AllocError, Global};
 use std::str;
 
-/// A pointer as it is spelt, or the status where the bytes spell none.
+/// The pointer in these bytes, or the status where they are not a pointer.
 fn pointer_in(bytes: &'static [u8]) -> Result<&'static str, u32>
     ensures text { IfOk result (λ text. text.now ≡ bytes.now) }
     ensures spelt { IfOk result (λ _. IsSpelt bytes.now) }
@@ -89,7 +89,7 @@ pub extern "C" fn jx_values_new_non_null(
     }
 }
 
-/// Reads the bytes behind all that the stream was fed. After want of memory the struct holds no stream.
+/// Reads the bytes after all that the stream was fed. When out of memory the struct is empty afterwards.
 #[unsafe(no_mangle)]
 pub extern "C" fn jx_values_feed_non_null(alloc: Global, values: &mut JxValues, bytes: &[u8]) -> u32
     ensures none { values.old.held ≡ None → result ≡ NO_VALUES }
@@ -115,7 +115,7 @@ pub extern "C" fn jx_values_feed_non_null(alloc: Global, values: &mut JxValues, 
     }
 }
 
-/// Moves the lines that wait into the buffer, if that has room for all, and tells their size.
+/// Moves the lines that wait into the buffer, if that has room for all, and puts their size into `size`.
 fn move_out(whole: &mut ValueStream, lines: &mut [u8], size: &mut usize) -> u32
     ensures size { size.new ≡ length whole.old.each.ready }
     ensures placed { result ≡ OK → IsPlaced whole.old.each.ready lines.old lines.new size.new }
@@ -128,7 +128,7 @@ fn move_out(whole: &mut ValueStream, lines: &mut [u8], size: &mut usize) -> u32
     ensures status { (result ≡ OK) ⊎ (result ≡ NO_ROOM) }
     ensures unchanged { (result ≡ OK → ⊥) → lines.new ≡ lines.old }
 {
-    what_is_taken_is_due();
+    lines_taken_and_waiting();
     let status = put(whole.ready(), lines, size);
     if status == OK {
         whole.clear_ready();
@@ -161,7 +161,7 @@ pub extern "C" fn jx_values_take_non_null(
     status
 }
 
-/// Ends the stream: what the pointer comes to in the text of all bytes that it was fed, or why that is no text. The struct holds no
+/// Ends the stream: where the pointer leads in the text of all bytes that it was fed, or why that is not valid JSON. The struct has no
 /// stream afterwards.
 #[unsafe(no_mangle)]
 pub extern "C" fn jx_values_end_non_null(

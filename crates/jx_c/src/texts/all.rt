@@ -22,7 +22,7 @@ pub struct JxPointer<'p> {
     pub bytes: &'p [u8],
 }
 
-/// The pointer that bytes spell; where they spell none, that of the whole text.
+/// The pointer in these bytes; where they are not a pointer, that of the whole text.
 fn pointer_or_root<'p>(pointer: JxPointer<'p>) -> Pointer<'p>
     ensures { IsPointerOf pointer.entry.bytes.now result }
 {
@@ -40,7 +40,7 @@ fn pointer_at<'p>(pointers: &[JxPointer<'p>], number: usize) -> JxPointer<'p>
     pointers[number]
 }
 
-/// The pointers that are spelt, in order, with that of the whole text for each that is none.
+/// The pointers in order, with that of the whole text for bytes that are not a pointer.
 pub(crate) fn pointers_of<'p>(
     alloc: Global,
     pointers: &[JxPointer<'p>],
@@ -68,7 +68,7 @@ fn read_for(
     find_each_by_names(alloc, text, settings, &all)
 }
 
-/// What the pointer with this number comes to, if it is one.
+/// The answer to the pointer with this number, if it is one.
 fn told_at(read: &Result<Vec<Result<Found, FindFault>>, Refusal>, number: usize) -> LookUp
     requires { IfOk read.now (λ all. number < length all.items) }
     ensures { (settings : Settings) (text : List ℕ) (pointers : List JxPointer) (pointer : JxPointer) → IsReadFor settings text pointers read.now
@@ -80,7 +80,7 @@ fn told_at(read: &Result<Vec<Result<Found, FindFault>>, Refusal>, number: usize)
     }
 }
 
-/// What the bytes with this number come to.
+/// The answer to the bytes with this number.
 fn look_up_at(
     read: &Result<Vec<Result<Found, FindFault>>, Refusal>,
     pointer: JxPointer,
@@ -139,7 +139,7 @@ fn answer_each(
     Ok(())
 }
 
-/// What each of many pointers leads to in one text, as `jx_at` tells it: as many answers as the buffer has room for. The text is
+/// The value of each of many pointers in one text, as by `jx_at`: as many answers as the buffer has room for. The text is
 /// read once for all of them, and twice where names have to be unique.
 #[unsafe(no_mangle)]
 pub extern "C" fn jx_at_all_non_null(

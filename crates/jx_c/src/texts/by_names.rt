@@ -10,7 +10,7 @@ use jx_index::{FindFault, Found, Pointer, verdict_with_unique_names};
 use jx_run::{NameRule, NoPause, Refusal, Settings, Verdict};
 use std::alloc::{AllocError, Global};
 
-/// The same settings, but objects may have any names.
+/// These settings, but objects may have any names.
 fn with_any_names(settings: &Settings) -> Settings
     ensures { result ≡ record { depth = settings.now.depth; mark = settings.now.mark; names = Any } }
 {

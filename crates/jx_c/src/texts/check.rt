@@ -9,7 +9,7 @@ use crate::shapes::settings::{JxSettings, settings_in};
 use crate::shapes::status::{DEPTH_TOO_GREAT, NO_MEMORY, OK, UNKNOWN_FLAG};
 use crate::shapes::verdict::{JxVerdict, shown};
 use crate::streams::reader::JxReader;
-use jx_index::{names_are_refused_by_rows, verdict_with_unique_names};
+use jx_index::{repeated_name_by_rows, verdict_with_unique_names};
 use jx_run::{NameRule, NoPause, Settings, Verdict};
 use std::alloc::{AllocError, Global};
 
@@ -26,7 +26,7 @@ fn verdict_with_any_names(text: &[u8], settings: &Settings) -> Result<Verdict, A
 pub fn verdict_by(alloc: Global, text: &[u8], settings: &Settings) -> Result<Verdict, AllocError>
     ensures { IfOk result (IsVerdictBy settings.now text.now) }
 {
-    names_are_refused_by_rows();
+    repeated_name_by_rows();
     match settings.names {
         NameRule::Any => verdict_with_any_names(text, settings),
         NameRule::Unique => verdict_with_unique_names(alloc, text, settings, &mut NoPause),

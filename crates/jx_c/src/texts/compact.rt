@@ -15,7 +15,7 @@ use jx_compact::{compact_into, compact_len};
 use jx_run::{FrontMark, Verdict};
 use std::alloc::{AllocError, Global};
 
-/// The bytes behind a byte order mark, where one is ignored.
+/// The bytes after a byte order mark, where one is ignored.
 fn behind_mark(text: &[u8], mark: FrontMark) -> &[u8]
     ensures { result.now ≡ behind_mark mark text.now }
 {
@@ -25,7 +25,7 @@ fn behind_mark(text: &[u8], mark: FrontMark) -> &[u8]
     }
 }
 
-/// Puts the compact form of bytes into the buffer, if that has room for it, and tells its size.
+/// Puts the compact form of bytes into the buffer, if that has room for it, and its size into `size`.
 fn put(bytes: &[u8], buffer: &mut [u8], size: &mut usize) -> u32
     ensures size { size.new ≡ length (compact bytes.now) }
     ensures put { result ≡ OK → IsPlaced (compact bytes.now) buffer.old buffer.new size.new }
@@ -42,8 +42,8 @@ fn put(bytes: &[u8], buffer: &mut [u8], size: &mut usize) -> u32
     OK
 }
 
-/// Checks whether the bytes are a JSON text (RFC 8259) by settings. Of a text the tokens are put into the buffer, one behind
-/// another, each with the bytes that it has, and their size is told. Of what is refused there are none. It takes memory only
+/// Checks whether the bytes are a JSON text (RFC 8259) by settings. Of a text the tokens are put into the buffer, one after
+/// another, each with the bytes that it has, and their size into `size`. Of what is refused there are none. It takes memory only
 /// where names have to be unique.
 #[unsafe(no_mangle)]
 pub extern "C" fn jx_compact_non_null(

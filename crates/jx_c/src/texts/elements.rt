@@ -15,7 +15,7 @@ use std::alloc::{AllocError, Global};
 /// It is a text that may be the beginning of a longer one.
 const MAY_BE_CUT: u32 = 4;
 
-/// It stands before the first record separator.
+/// It is before the first record separator.
 const UNMARKED: u32 = 5;
 
 /// An element of a sequence.
@@ -24,11 +24,11 @@ const UNMARKED: u32 = 5;
 pub struct JxElement {
     /// Where it stands, without its record separator.
     pub span: JxSpan,
-    /// What it comes to; offsets count from the sequence's start.
+    /// Its verdict; offsets count from the sequence's start.
     pub verdict: JxVerdict,
 }
 
-/// What an element comes to, as C sees it.
+/// The verdict on an element, as C sees it.
 fn shown_verdict(verdict: ElementVerdict) -> JxVerdict
     ensures { result ≡ shown_verdict verdict }
 {
@@ -59,8 +59,8 @@ impl Seen for JudgedElement {
     }
 }
 
-/// The elements of a JSON text sequence (RFC 7464, section 2.1) by settings in order, each with where it stands and what it
-/// comes to. As many as the buffer has room for are put there, and `count` tells how many there are. A byte order mark that is
+/// The elements of a JSON text sequence (RFC 7464, section 2.1) by settings in order, each with its span and its verdict.
+/// As many as the buffer has room for are put there, and their number into `count`. A byte order mark that is
 /// alone before the first record separator may be ignored and is no element. Names may have to be unique (RFC 8259, section 4).
 #[unsafe(no_mangle)]
 pub extern "C" fn jx_elements_non_null(

@@ -23,8 +23,8 @@ use crate::shapes::verdict::{JxVerdict, shown};
 use crate::texts::catalog::Catalog;
 use crate::texts::held_index::JxIndex;
 use crate::texts::look_up::{JxAnswer, LookUp, shown_look_up, spelt};
-use jx_index::{Indexed, Pointer, TextAnswer, indexes_stand_behind_fronts, look_ups_end_at_rows};
-use jx_run::{Refusal, Settings, Verdict, text_by_settings_has_one_tree};
+use jx_index::{Indexed, Pointer, TextAnswer, index_behind_a_front, rows_of_look_ups};
+use jx_run::{Refusal, Settings, Verdict, unique_tree_by_settings};
 use std::alloc::{AllocError, Global};
 
 /// Reads a text by settings, and indexes it where it is accepted.
@@ -45,7 +45,7 @@ fn read(
     }
 }
 
-/// Puts in what reading a text came to: its index, or none, and the verdict.
+/// Puts in the result of reading a text: its index, or none, and the verdict.
 fn put(
     alloc: Global,
     read: Result<Box<Catalog>, Refusal>,
@@ -97,12 +97,12 @@ pub extern "C" fn jx_index_new_non_null(
     }
 }
 
-/// What a pointer leads to in an index.
+/// The answer to a pointer in an index.
 fn led(index: &Indexed, pointer: &Pointer) -> LookUp
     ensures { (limit : ℕ) (tree : Tree) → IsText index.now.text index.now.span.start index.now.span.end limit tree
         → IsLed index.now.text tree pointer.now result }
 {
-    look_ups_end_at_rows();
+    rows_of_look_ups();
     match index.find(pointer) {
         Ok(node) => {
             let row = index.row(node);
@@ -115,26 +115,26 @@ fn led(index: &Indexed, pointer: &Pointer) -> LookUp
     }
 }
 
-/// What the bytes of a pointer come to in an index.
+/// The answer to the bytes of a pointer in an index.
 fn look_up_in(index: &Indexed, pointer: &[u8]) -> LookUp
     ensures { IsLookUpIn index.now pointer.now result }
 {
-    indexes_stand_behind_fronts();
-    text_by_settings_has_one_tree();
+    index_behind_a_front();
+    unique_tree_by_settings();
     match spelt(pointer) {
         Ok(read) => led(index, &read),
         Err(none) => none,
     }
 }
 
-/// The same as C sees it.
+/// The answer to the bytes of a pointer in an index, as C sees it.
 pub fn answer_in(index: &Indexed, pointer: &[u8]) -> JxAnswer
     ensures { IsAnswerIn index.now pointer.now result }
 {
     shown_look_up(look_up_in(index, pointer))
 }
 
-/// What a pointer (RFC 6901) leads to in the text. It takes no memory.
+/// Looks up the value of a pointer (RFC 6901) in the text. It takes no memory.
 #[unsafe(no_mangle)]
 pub extern "C" fn jx_index_find_non_null(
     alloc: Global,

@@ -14,7 +14,7 @@ use crate::shapes::status::{DEPTH_TOO_GREAT, NO_MEMORY, OK, UNKNOWN_FLAG};
 use crate::texts::by_names::find_each_by_names;
 use jx_index::{FindFault, Found, Pointer, PointerFault};
 use jx_lex::{Kind, Span};
-use jx_run::{Refusal, Settings, text_by_settings_has_one_tree};
+use jx_run::{Refusal, Settings, unique_tree_by_settings};
 use std::alloc::{AllocError, Global};
 use std::{slice, str};
 
@@ -46,7 +46,7 @@ const TEXT_TOO_DEEP: u32 = 12;
 
 const TEXT_REPEATED_NAME: u32 = 13;
 
-/// What a pointer comes to in a text.
+/// The answer to a pointer in a text.
 #[repr(C)]
 #[derive(Clone, Copy)]
 pub struct JxAnswer {
@@ -59,7 +59,7 @@ pub struct JxAnswer {
     pub kind: u32,
 }
 
-/// What a pointer comes to in bytes.
+/// The answer to a pointer in bytes.
 #[derive(Clone, Copy)]
 pub enum LookUp {
     /// It leads to a value.
@@ -70,7 +70,7 @@ pub enum LookUp {
     BadPointer(PointerFault),
     /// It is not in UTF-8, and so no pointer.
     NotUtf8,
-    /// The bytes are no text.
+    /// The bytes are not valid JSON.
     NoText(Refusal),
 }
 
@@ -113,7 +113,7 @@ pub fn shown_look_up(look_up: LookUp) -> JxAnswer
     }
 }
 
-/// What was found in a text, as a look-up.
+/// The look-up of what was found in a text.
 fn look_up_of(found: Result<Found, FindFault>) -> LookUp
     ensures { (text : List ℕ) (tree : Tree) (pointer : List ℕ) → found ≡ found_of (led text tree (tokens pointer)) → IsLed text tree pointer result }
 {
@@ -126,18 +126,18 @@ fn look_up_of(found: Result<Found, FindFault>) -> LookUp
     }
 }
 
-/// What a pointer comes to, by the refusal of the bytes or by what was found in them.
+/// The answer to a pointer, by the refusal of the bytes or by what was found in them.
 pub fn told(read: Result<Result<Found, FindFault>, Refusal>) -> LookUp
     ensures { (settings : Settings) (text pointer : List ℕ) → IsSpelt pointer → IsFoundBy settings text pointer read → IsLookUp settings text pointer result }
 {
-    text_by_settings_has_one_tree();
+    unique_tree_by_settings();
     match read {
         Ok(found) => look_up_of(found),
         Err(refusal) => LookUp::NoText(refusal),
     }
 }
 
-/// The pointer that bytes spell, or what they come to where they spell none.
+/// The pointer in these bytes, or the answer where they are not a pointer.
 pub fn spelt(pointer: &[u8]) -> Result<Pointer<'_>, LookUp>
     ensures pointer { IfOk result (λ p. p ≡ pointer.now) }
     ensures spelt { IfOk result (λ _. IsSpelt pointer.now) }
@@ -153,7 +153,7 @@ pub fn spelt(pointer: &[u8]) -> Result<Pointer<'_>, LookUp>
     }
 }
 
-/// What was found with this number.
+/// The answer with this number.
 pub fn found_at(all: &[Result<Found, FindFault>], number: usize) -> Result<Found, FindFault>
     requires { number < length all.now }
     ensures { slice_get all.now number ≡ Some result }
@@ -161,7 +161,7 @@ pub fn found_at(all: &[Result<Found, FindFault>], number: usize) -> Result<Found
     all[number]
 }
 
-/// What a pointer that was spelt comes to in a text by settings.
+/// The answer to a pointer in a text by settings.
 fn look_up_one(
     alloc: Global,
     text: &[u8],
@@ -176,7 +176,7 @@ fn look_up_one(
     }
 }
 
-/// What the bytes of a pointer come to in a text by settings.
+/// The answer to the bytes of a pointer in a text by settings.
 pub fn look_up(
     alloc: Global,
     text: &[u8],
@@ -194,7 +194,7 @@ pub fn look_up(
     }
 }
 
-/// What a pointer (RFC 6901) leads to in a JSON text (RFC 8259) by settings. A pointer that is none is told before the text is
+/// The value of a pointer (RFC 6901) in a JSON text (RFC 8259) by settings. Bytes that are not a pointer are refused before the text is
 /// read.
 #[unsafe(no_mangle)]
 pub extern "C" fn jx_at_non_null(

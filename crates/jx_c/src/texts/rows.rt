@@ -16,7 +16,7 @@ use jx_index::{Row, read_rows};
 use jx_run::{Refusal, Verdict};
 use std::alloc::{AllocError, Global};
 
-/// Tells what reading a text came to: the verdict, how many rows there are, and in the buffer the rows.
+/// Puts in the result of reading a text: the verdict, how many rows there are, and in the buffer the rows.
 fn tell(
     read: Result<Vec<Row>, Refusal>,
     rows: &mut [JxRow],
@@ -41,7 +41,7 @@ fn tell(
 }
 
 /// The rows of a JSON text (RFC 8259) by settings: all its values in the order of their starts. As many as the buffer has room
-/// for are put there, and `count` tells how many there are; where the text is refused there are none.
+/// for are put there, and their number into `count`; where the text is refused there are none.
 #[unsafe(no_mangle)]
 pub extern "C" fn jx_rows_non_null(
     alloc: Global,

@@ -129,7 +129,7 @@ fn put(alloc: Global, share: &mut ShelfShare, index: &mut JxIndex) -> u32
     }
 }
 
-/// Puts an index back into its struct, unless a growth of memory is refused.
+/// Puts an index back into its struct, unless an allocation failed.
 fn put_back(alloc: Global, index: &mut JxIndex, back: Catalog) -> u32
     requires { index.old.held ≡ None }
     ensures status { (result ≡ TAKEN) ⊎ (result ≡ NO_MEMORY) }
@@ -145,7 +145,7 @@ fn put_back(alloc: Global, index: &mut JxIndex, back: Catalog) -> u32
     }
 }
 
-/// What a pointer (RFC 6901) leads to in the text of the index, if one stands on the shelf. It takes no memory.
+/// Looks up the value of a pointer (RFC 6901) in the text of the index, if one is on the shelf. It takes no memory.
 #[unsafe(no_mangle)]
 pub extern "C" fn jx_shelf_find_non_null(
     alloc: Global,
@@ -203,7 +203,7 @@ pub extern "C" fn jx_shelf_row_non_null(
     }
 }
 
-/// Tells of which text the index is, if one stands on the shelf. It takes no memory.
+/// Gives the text of the index, if one is on the shelf. It takes no memory.
 #[unsafe(no_mangle)]
 pub extern "C" fn jx_shelf_text_non_null(
     alloc: Global,

@@ -18,7 +18,7 @@ use std::sync::Arc;
 pub enum Unpublished {
     /// Another one stands there. It is handed back.
     Taken(Catalog),
-    /// A growth of memory was refused. It is freed.
+    /// An allocation failed. It is freed.
     Memory,
 }
 
@@ -67,7 +67,7 @@ impl ShelfShare {
         Ok(ShelfShare { shelf, note })
     }
 
-    /// Puts an index on the shelf, where none stands there. Else it is handed back, or lost for want of memory.
+    /// Puts an index on the shelf, where there is none. Else it is handed back, or lost when out of memory.
     pub fn publish(&mut self, whole: Catalog) -> Result<(), Unpublished>
         ensures looked { Looks self.old self.new }
         ensures published { IfOk result (λ _. self.new.known ≡ Some whole) }
@@ -81,7 +81,7 @@ impl ShelfShare {
         }
     }
 
-    /// What the bytes of a pointer come to in the index, where one stands on the shelf.
+    /// The answer to the bytes of a pointer in the index, where one is on the shelf.
     pub fn find(&mut self, pointer: &[u8]) -> Option<JxAnswer>
         ensures looked { Looks self.old self.new }
         ensures found { IfSome result (λ told. (index : IndexedValue) × (self.new.known ≡ Some index) × IsAnswerIn index pointer.now told) }
@@ -91,7 +91,7 @@ impl ShelfShare {
         Some(answer_in(index, pointer))
     }
 
-    /// The row with a number in the index, where one stands on the shelf; none behind the last.
+    /// The row with a number in the index, where one stands on the shelf; none after the last.
     pub fn row(&mut self, number: usize) -> Option<Option<JxRow>>
         ensures looked { Looks self.old self.new }
         ensures row { IfSome result (λ told. (index : IndexedValue) × (self.new.known ≡ Some index) × (told ≡ row_at index number)) }
@@ -101,7 +101,7 @@ impl ShelfShare {
         Some(row_at(index, number))
     }
 
-    /// Tells of which text the index is, where one stands on the shelf, and whether one does.
+    /// Gives the text of the index, where one is on the shelf, and whether one is.
     pub fn tell(&mut self, text: &mut JxText<'static>) -> bool
         ensures looked { Looks self.old self.new }
         ensures told { result ≡ true → (index : IndexedValue) × (self.new.known ≡ Some index) × (text.new.bytes.now ≡ index.text) }

@@ -1,9 +1,7 @@
--- Blocks of an array in which no string, no bracket and no white space stands.
+-- Blocks of an array in which no bracket and no white space stands outside of strings, and no comma in one.
 use Rattle.std.specs.Prelude.{◌≡◌, ◌-◌, ◌<◌, ◌≤◌, ◌==◌, if◌then◌else◌, ℕ, suc, List, get_or, Bool, true, false}
-use Rattle.jx_compact.specs.declared.place.Place.TheVariants.{Between}
 use Rattle.jx_lex.specs.inside.Bits.{bit}
 use Rattle.jx_each.specs.declared.blocks.Words.{Words}
-use Rattle.jx_each.specs.inside.Blocks.{place_at}
 
 abbrev pub is_comma : ℕ → Bool
 is_comma byte = byte == 0x2c
@@ -13,8 +11,7 @@ abbrev pub fed : ℕ → ℕ
 fed byte = if byte == 0x2c then 0x0a else byte
 
 -- its commas alone do anything, each of them follows an element, and the last one before a place
-pub record IsFlat (block : List ℕ) (inside : Bool) (words : Words) (begun : Bool) (end : ℕ) : Type 0 where
-  pub outside : (k : ℕ) → place_at inside words k ≡ Between
+pub record IsFlat (block : List ℕ) (words : Words) (begun : Bool) (end : ℕ) : Type 0 where
   pub whole : words.len ≡ 64
   pub brackets : (k : ℕ) → bit words.brackets k ≡ false
   pub gaps : (k : ℕ) → bit words.gaps k ≡ false

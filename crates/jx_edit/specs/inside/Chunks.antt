@@ -20,7 +20,7 @@ pub record ChunkedValue : Type 0 where
 abbrev pub bytes_of : ChunkValue → List ℕ
 bytes_of c = c.bytes
 
--- the bytes of chunks, one behind another
+-- the bytes of chunks, one after another
 abbrev pub text_of : List ChunkValue → List ℕ
 text_of chunks = flat_map bytes_of chunks
 
@@ -36,7 +36,7 @@ pub record IsFresh (depth : ℕ) (c : ChunkValue) : Type 0 where
 abbrev pub AreFresh : ℕ → List ChunkValue → Type 0
 AreFresh depth chunks = All (IsFresh depth) chunks
 
--- a place lies in the chunk, or in none, that stands behind so many chunks, which have so many bytes; a border belongs to the chunk before it
+-- a place lies in the chunk, or in none, that follows so many chunks, which have so many bytes; a border belongs to the chunk before it
 pub record IsSeam (chunks : List ChunkValue) (at before bytes here : ℕ) : Type 0 where
   pub within : before + here ≤ length chunks
   pub long : bytes ≡ length (text_of (take before chunks))
@@ -45,7 +45,7 @@ pub record IsSeam (chunks : List ChunkValue) (at before bytes here : ℕ) : Type
   pub reach : at ≤ bytes + length (text_of (slice_range chunks before (before + here)))
   pub few : here ≤ 1
 
--- the bytes up to a place, behind so many chunks, which have so many bytes
+-- the bytes up to a place, after so many chunks, which have so many bytes
 pub record IsFront (chunks : List ChunkValue) (at before offset : ℕ) (bytes : List ℕ) : Type 0 where
   pub within : before ≤ length chunks
   pub long : offset ≡ length (text_of (take before chunks))

@@ -1,4 +1,4 @@
--- Where chunks lead, one behind another.
+-- Where chunks lead, one after another.
 use Rattle.std.specs.Prelude.{◌≡◌, ◌<◌, ◌^◌, ℕ, zero, suc, List, [], ◌∷◌, true, length, take}
 use Rattle.jx_run.specs.Reading.{stopped, too_deep, read_text}
 use Rattle.jx_edit.specs.inside.Chunks.{ChunkValue, text_of}
@@ -8,12 +8,12 @@ use Rattle.jx_edit.specs.declared.chunking.sums.Sum.{Sum}
 use Rattle.jx_edit.specs.declared.reading.walk.Step.{Step as TheStep}
 use Rattle.jx_edit.specs.declared.reading.walk.Step.TheVariants as step
 
--- a chunk behind a place: where it is linked, it leads from there to the place that it keeps
+-- a chunk after a place: where it is linked, it leads from there to the place that it keeps
 pub record IsLink (limit : ℕ) (p : PlaceValue) (c : ChunkValue) : Type 0 where
   pub depth : c.depth ≡ limit
   pub leads : c.linked ≡ true → read_on limit p c.bytes ≡ came_to c.to
 
--- so it is with each of them, the first behind this place
+-- so it is with each of them, the first after this place
 abbrev pub AreLinked : ℕ → PlaceValue → List ChunkValue → Type 0
 AreLinked limit p [] = Unit {0}
 AreLinked limit p (c ∷ cs) = IsLink limit p c × AreLinked limit c.to cs
@@ -23,7 +23,7 @@ abbrev pub place_behind : PlaceValue → List ChunkValue → PlaceValue
 place_behind p [] = p
 place_behind p (c ∷ cs) = place_behind c.to cs
 
--- the bytes of the chunk behind so many
+-- the bytes of the chunk after so many
 abbrev pub bytes_at : List ChunkValue → ℕ → List ℕ
 bytes_at [] k = []
 bytes_at (c ∷ cs) zero = c.bytes

@@ -8,13 +8,13 @@ use Rattle.jx_edit.specs.declared.chunking.sums.Sum.{Sum}
 abbrev pub size_before : List ChunkValue → ℕ → ℕ
 size_before cs k = length (text_of (take k cs))
 
--- whether the chunk behind so many is linked; none is there, so is none that is not linked
+-- whether the chunk after so many is linked; it is not where there is no such chunk
 abbrev pub is_linked_at : List ChunkValue → ℕ → Bool
 is_linked_at [] k = true
 is_linked_at (c ∷ cs) zero = c.linked
 is_linked_at (c ∷ cs) (suc k) = is_linked_at cs k
 
--- each chunk behind so many, up to where so many end, is linked
+-- each chunk after so many, up to where so many end, is linked
 abbrev pub AreLinkedFrom : List ChunkValue → ℕ → ℕ → Type 0
 AreLinkedFrom cs i j = (k : ℕ) → i ≤ k → k < j → is_linked_at cs k ≡ true
 
@@ -22,7 +22,7 @@ AreLinkedFrom cs i j = (k : ℕ) → i ≤ k → k < j → is_linked_at cs k ≡
 abbrev pub AreLinkedBelow : List ChunkValue → ℕ → ℕ → ℕ → Type 0
 AreLinkedBelow cs count i j = (k : ℕ) → i ≤ k → k < j → k < count → is_linked_at cs k ≡ true
 
--- the bytes of the chunks of the group behind so many groups
+-- the bytes of the chunks of the group after so many groups
 abbrev pub text_at : List ChunkValue → ℕ → List ℕ
 text_at cs g = text_of (take 64 (drop (g * 64) cs))
 
@@ -43,7 +43,7 @@ pub record AreSums (cs : List ChunkValue) (ss : List Sum) : Type 0 where
   pub covers : length cs ≤ length ss * 64
   pub each : (g : ℕ) (s : Sum) → g < length ss → IsSum cs g (get_or ss g s)
 
--- a border between chunks, behind so many of them, which have so many bytes; the place lies behind it, or it is the first one
+-- a border between chunks, after so many of them, which have so many bytes; the place lies after it, or it is the first one
 pub record IsBorder (cs : List ChunkValue) (at before bytes : ℕ) : Type 0 where
   pub within : before ≤ length cs
   pub long : bytes ≡ size_before cs before

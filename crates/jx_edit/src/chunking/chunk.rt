@@ -1,4 +1,4 @@
-// Part of a document, with what reading it comes to.
+// A part of a document, with the result of reading it.
 ghost use Rattle.std.specs.Prelude.{◌≡◌, ◌≤◌, ◌<◌, ◌+◌, ◌*◌, ◌^◌, IfOk, IfSome, length, take, true};
 ghost use Rattle.jx_edit.specs.inside.Chunks.{open_ended, text_of, AreFresh, IsFresh, IsRunOver};
 ghost use Rattle.jx_edit.specs.inside.Leads.{reading_in, IsLedWithin};
@@ -59,7 +59,7 @@ fn run_over(alloc: Global, bytes: &[u8], depth: Depth) -> Result<OutcomeRun, All
     Ok(run)
 }
 
-/// The same, unless it would be large.
+/// The run over bytes, with no spare room, unless it would be large.
 fn small_run_over(
     alloc: Global,
     bytes: &[u8],
@@ -99,7 +99,7 @@ impl Chunk {
         self.bytes.as_slice()
     }
 
-    /// The position behind its bytes where a text begins with them.
+    /// The position after its bytes where a text begins with them.
     pub(crate) fn moves(&self, encoding: Encoding) -> Position
         ensures { result ≡ position_behind encoding first self.now.bytes }
     {
@@ -109,7 +109,7 @@ impl Chunk {
         }
     }
 
-    /// The position behind so many of its bytes where a text begins with them.
+    /// The position after so many of its bytes where a text begins with them.
     pub(crate) fn position_behind(&self, at: usize, encoding: Encoding) -> Position
         requires { at ≤ length self.now.bytes }
         ensures { result ≡ position_behind encoding first (take at self.now.bytes) }
@@ -120,7 +120,7 @@ impl Chunk {
         }
     }
 
-    /// How many of its bytes, which stand at one position, come before the next position is behind another.
+    /// How many of its bytes, which stand at one position, come before the next position is after another.
     pub(crate) fn reach(&self, from: Position, to: Position, encoding: Encoding) -> Reached
         requires lines { from.line + length self.now.bytes < 2 ^ 64 }
         requires characters { from.character + 2 * length self.now.bytes < 2 ^ 64 }
@@ -179,7 +179,7 @@ impl Chunk {
         }
     }
 
-    /// Links it to the place to which it leads, and tells whether it is the one that it kept.
+    /// Links it to the place to which it leads, and returns whether that is the one it had.
     pub(crate) fn link(&mut self, to: Place) -> bool
         requires within { length to.holders ≤ self.old.depth }
         ensures linked { self.new ≡ record { depth = self.old.depth; bytes = self.old.bytes; to = to; linked = true } }
@@ -199,7 +199,7 @@ impl Chunk {
     }
 }
 
-/// The bytes of chunks, one behind another.
+/// The bytes of chunks, one after another.
 #[tactic(auto, using(crate::proofs::Texts::text_more))]
 pub(crate) fn text_of(alloc: Global, chunks: &[Chunk]) -> Result<Vec<u8>, AllocError>
     ensures { IfOk result (λ bytes. bytes.items ≡ text_of chunks.now) }

@@ -59,7 +59,7 @@ const SIZE: usize = 32768;
 pub(crate) const MOST: usize = usize::MAX / 2;
 
 impl Chunked {
-    /// The text of these bytes, with counts by one encoding, if any. Only want of memory is refused.
+    /// The text of these bytes, with counts by one encoding, if any. Fails only when out of memory.
     pub(crate) fn of(
         alloc: Global,
         bytes: &[u8],
@@ -83,7 +83,7 @@ impl Chunked {
         })
     }
 
-    /// The same with no counts, where so many workers each make a part of it.
+    /// The text of these bytes with no counts, where so many workers each make a part of it.
     pub(crate) fn of_by<R: Threads + Sync>(
         rt: &R,
         alloc: Global,
@@ -127,14 +127,14 @@ impl Chunked {
         rest_at(&self.chunks, &self.sums, offset)
     }
 
-    /// Its bytes behind a front, piece by piece.
+    /// Its bytes after a front, chunk by chunk.
     pub(crate) fn chunks_behind<'a>(&'a self, front: &'a [u8]) -> Chunks<'a>
         ensures { concat result ≡ front.now ++ self.now.bytes }
     {
         Chunks::of(front, &self.chunks)
     }
 
-    /// The position behind so many of its bytes, or behind all, where the first stands at one.
+    /// The position after so many of its bytes, or after all, where the first stands at one.
     pub(crate) fn position_from(&self, from: Position, at: usize, encoding: Encoding) -> Position
         requires lines { from.line + length self.now.bytes < 2 ^ 64 }
         requires characters { from.character + 2 * length self.now.bytes < 2 ^ 64 }
@@ -143,7 +143,7 @@ impl Chunked {
         position_at(&self.chunks, &self.sums, from, at, encoding)
     }
 
-    /// How many of its bytes, of which the first stands at one position, come before the next position is behind another.
+    /// How many of its bytes, of which the first stands at one position, come before the next position is after another.
     pub(crate) fn reach_from(&self, from: Position, to: Position, encoding: Encoding) -> Reached
         requires lines { from.line + length self.now.bytes < 2 ^ 64 }
         requires characters { from.character + 2 * length self.now.bytes < 2 ^ 64 }
@@ -170,7 +170,7 @@ impl Chunked {
         )
     }
 
-    /// Where a reading stands behind so many bytes, where these begin a text. It is known behind a verdict, and may be none
+    /// Where a reading is after so many bytes, where a text begins with these. It is known after a verdict, and may be none
     /// before.
     pub(crate) fn stand(&self, at: usize) -> Result<Option<Place>, AllocError>
         requires within { at ≤ length self.now.bytes }

@@ -5,10 +5,10 @@ ghost use Rattle.jx_edit.specs.inside.Pieces.{pieces};
 use crate::chunking::chunk::Chunk;
 use std::marker::Model;
 
-/// The bytes of a document, piece by piece.
+/// The bytes of a document, chunk by chunk.
 #[derive(Drop)]
 pub struct Chunks<'a> {
-    // what is left of a mark that stands in none of the chunks
+    // what is left of a byte order mark that is in none of the chunks
     front: &'a [u8],
     rest: &'a [Chunk],
 }
@@ -23,7 +23,7 @@ impl<'a> Model for Chunks<'a> {
 }
 
 impl<'a> Chunks<'a> {
-    /// The pieces of a front and of the chunks behind it.
+    /// The bytes of a front and of the chunks after it.
     pub(crate) fn of(front: &'a [u8], rest: &'a [Chunk]) -> Chunks<'a>
         ensures { result ≡ pieces front.now rest.now }
     {

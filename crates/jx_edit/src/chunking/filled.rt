@@ -35,7 +35,7 @@ impl Filled {
         none.with(alloc, bytes, size, depth)
     }
 
-    /// The same with more bytes behind them. Each `size` bytes fill a chunk.
+    /// The chunks with more bytes after them. Each `size` bytes fill a chunk.
     pub(crate) fn with(
         self,
         alloc: Global,
@@ -65,7 +65,7 @@ impl Filled {
         Ok(Filled { chunks, begun })
     }
 
-    /// All chunks. The bytes behind them become one more.
+    /// All chunks. The bytes after them become one more.
     pub(crate) fn finish(self, alloc: Global, depth: Depth) -> Result<Vec<Chunk>, AllocError>
         requires { AreFresh depth self.chunks.items }
         ensures fresh { IfOk result (λ chunks. AreFresh depth chunks.items) }

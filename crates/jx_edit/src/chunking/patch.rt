@@ -21,8 +21,8 @@ pub(crate) struct Patch {
     pub(crate) chunks: Vec<Chunk>,
 }
 
-/// How long each piece is where so many bytes are cut evenly, into pieces of at least this size and less than twice that; fewer
-/// bytes are one piece.
+/// The length of each chunk where so many bytes are cut evenly, into chunks of at least this size and less than twice that;
+/// fewer bytes are one chunk.
 pub(crate) fn piece_for(len: usize, size: usize) -> usize
     requires { 0 < size }
     ensures { 0 < result }
@@ -31,12 +31,12 @@ pub(crate) fn piece_for(len: usize, size: usize) -> usize
     (len / count).saturating_add(1)
 }
 
-/// So few bytes behind an edit are taken together with the next chunk: where half a chunk is not reached otherwise.
+/// So few bytes after an edit are taken together with the next chunk: where half a chunk is not reached otherwise.
 fn few_for(size: usize, before: usize, put: usize) -> usize {
     (size / 2).saturating_sub(before).saturating_sub(put)
 }
 
-/// The chunks of a front, of a replacement and of a back, one behind another. The bytes are copied once.
+/// The chunks of a front, of a replacement and of a back, one after another. The bytes are copied once.
 #[tactic(auto, using(crate::proofs::Texts::together))]
 fn chunks_between(
     alloc: Global,
@@ -148,8 +148,8 @@ fn replace(
 }
 
 /// Puts chunks in the place of those from `first` up to `last`, gives up the link of the next one, and makes the sums anew
-/// that are others now: those of the groups in which chunks change, or all behind them where the chunks behind move. Where
-/// memory is refused nothing changes.
+/// that are others now: those of the groups in which chunks change, or all after them where the chunks after them move. When
+/// out of memory nothing changes.
 pub(crate) fn put(
     chunks: &mut Vec<Chunk>,
     sums: &mut Vec<Sum>,

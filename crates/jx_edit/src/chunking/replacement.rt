@@ -6,7 +6,7 @@ ghost use Rattle.jx_run.specs.Front.{front_of};
 use jx_run::{Front, FrontMark, front};
 use std::alloc::{AllocError, Global};
 
-/// The bytes that an edit puts in, and a few before and behind them that it takes out and puts in again.
+/// The bytes that an edit puts in, and a few before and after them that it takes out and puts in again.
 #[derive(Clone, Copy)]
 pub(crate) struct Replacement<'a> {
     pub(crate) before: &'a [u8],
@@ -41,7 +41,7 @@ impl<'a> Replacement<'a> {
         some.saturating_add(self.behind.len())
     }
 
-    /// What is left of them without the first so many.
+    /// The replacement without the first so many bytes.
     pub(crate) fn without(self, count: usize) -> Replacement<'a>
         ensures { all_of result ≡ drop count (all_of self.entry) }
     {
@@ -54,7 +54,7 @@ impl<'a> Replacement<'a> {
         }
     }
 
-    /// What stands in front of a text that begins with them, or has no others. Three bytes of the replacement tell it.
+    /// The front of a text that begins with them, or has no others. The first three bytes of the replacement decide it.
     pub(crate) fn front(self, alloc: Global, mark: FrontMark) -> Result<Front, AllocError>
         ensures { IfOk result (λ f. f ≡ front_of mark (all_of self.entry)) }
     {

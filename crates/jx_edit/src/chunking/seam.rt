@@ -7,7 +7,7 @@ use crate::chunking::chunk::{Chunk, text_of};
 use crate::chunking::sums::{Sum, border_before};
 use std::alloc::{AllocError, Global};
 
-/// Behind so many chunks, which have so many bytes, come one or none, in which or at whose end the place lies.
+/// After so many chunks, which have so many bytes, come one or none, in which or at whose end the place lies.
 #[derive(Clone, Copy)]
 struct Seam {
     before: usize,
@@ -15,7 +15,7 @@ struct Seam {
     here: usize,
 }
 
-/// The bytes from a border between chunks up to a place, and the border: so many chunks and bytes stand before it.
+/// The bytes from a border between chunks up to a place, and the border: how many chunks and bytes are before it.
 #[derive(Clone, Copy)]
 pub(crate) struct Front<'a> {
     pub(crate) before: usize,
@@ -23,7 +23,7 @@ pub(crate) struct Front<'a> {
     pub(crate) bytes: &'a [u8],
 }
 
-/// The bytes from a place up to a border between chunks, and how many chunks stand before the border: those of the chunk in which
+/// The bytes from a place up to a border between chunks, and how many chunks are before the border: those of the chunk in which
 /// the place lies, and those of the next one where it is taken too.
 #[derive(Clone, Copy)]
 pub(crate) struct Back<'a> {
@@ -84,7 +84,7 @@ pub(crate) fn rest_at<'a>(chunks: &'a [Chunk], sums: &[Sum], at: usize) -> &'a [
     rest_in(&chunks[border.before..], at - border.bytes)
 }
 
-/// The same among a few chunks, which are looked at one by one.
+/// The bytes from a place up to the end of its chunk, among a few chunks, which are looked at one by one.
 fn rest_in(chunks: &[Chunk], at: usize) -> &[u8]
     requires fits { length (text_of chunks.now) < 2 ^ 64 }
     ensures part { result.now ≡ slice_range (text_of chunks.now) at (at + length result.now) }
@@ -169,7 +169,7 @@ fn back_of_one<'a>(chunks: &'a [Chunk], sums: &[Sum], at: usize) -> Back<'a>
     }
 }
 
-/// The bytes from a place up to a border behind it: the next one, or where so few bytes lie before that, one behind it.
+/// The bytes from a place up to a border after it: the next one, or where so few bytes lie before that, one after it.
 pub(crate) fn back_of<'a>(chunks: &'a [Chunk], sums: &[Sum], at: usize, few: usize) -> Back<'a>
     requires fits { length (text_of chunks.now) < 2 ^ 64 }
     requires sums { AreSums chunks.now sums.now }

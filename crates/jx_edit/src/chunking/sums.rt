@@ -14,7 +14,7 @@ use std::alloc::{AllocError, Global};
 /// How many chunks are in a group. The fewer there are, the fewer are looked at in one, and the more groups there are.
 pub(crate) const GROUP: usize = 64;
 
-/// What is kept of the chunks of a group.
+/// The counts that are kept of the chunks of a group.
 #[derive(Clone, Copy)]
 pub(crate) struct Sum {
     /// How many bytes they have together.
@@ -36,14 +36,14 @@ impl Sum {
     }
 }
 
-/// Where chunks begin: so many others, which have so many bytes, stand before them.
+/// The start of a chunk: how many chunks and bytes are before it.
 #[derive(Clone, Copy)]
 pub(crate) struct Border {
     pub(crate) before: usize,
     pub(crate) bytes: usize,
 }
 
-/// How many of so many chunks stand before a group.
+/// How many of so many chunks are before a group.
 pub(crate) fn chunks_before(group: usize, count: usize) -> usize
     ensures { result ≡ min (group * 64) count }
 {

@@ -6,14 +6,14 @@ ghost use Rattle.jx_edit.specs.Positions.{first, position_behind};
 use crate::positions::encoding::Encoding;
 use crate::positions::position::Position;
 
-/// How far bytes move a position on by one encoding: the position behind them, where a text begins with them.
+/// How far bytes move a position on by one encoding: the position after them, where a text begins with them.
 #[derive(Clone, Copy)]
 pub(crate) struct Moves {
     pub(crate) encoding: Encoding,
     pub(crate) position: Position,
 }
 
-/// The position behind bytes, where it is kept by this encoding.
+/// The position after bytes, where it is kept by this encoding.
 pub(crate) fn kept_by(moves: Option<Moves>, encoding: Encoding) -> Option<Position>
     ensures { (bytes : List ℕ) → IfSome moves (AreMoves bytes) → IfSome result (λ p. p ≡ position_behind encoding first bytes) }
 {

@@ -12,7 +12,7 @@ use crate::positions::moves::kept_by;
 use crate::positions::position::{Position, Reached};
 use crate::positions::seek::{position_in, reach_in};
 
-/// Where chunks begin: so many others, which have so many bytes, stand before them, and lead to a position.
+/// The start of a chunk: how many chunks and bytes are before it, and the position to which they lead.
 #[derive(Clone, Copy)]
 struct Passed {
     before: usize,
@@ -20,7 +20,7 @@ struct Passed {
     position: Position,
 }
 
-/// What is sought among chunks.
+/// A position or an offset that is sought among chunks.
 #[derive(Clone, Copy)]
 enum Sought {
     At(usize),
@@ -75,7 +75,7 @@ fn pass_groups(
     passed
 }
 
-/// The position behind so many bytes of chunks of which the first stands at one, or behind all of them.
+/// The position after so many bytes of chunks of which the first stands at one, or after all of them.
 pub(crate) fn position_at(
     chunks: &[Chunk],
     sums: &[Sum],
@@ -93,7 +93,7 @@ pub(crate) fn position_at(
     position_in(rest, border.position, at - border.bytes, encoding)
 }
 
-/// How many bytes of chunks, of which the first stands at one position, come before the next position is behind another.
+/// How many bytes of chunks, of which the first stands at one position, come before the next position is after another.
 pub(crate) fn reach_at(
     chunks: &[Chunk],
     sums: &[Sum],

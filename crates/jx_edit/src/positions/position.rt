@@ -1,5 +1,5 @@
 // Where lines and characters stand in bytes.
-ghost use Rattle.std.specs.Prelude.{◌≡◌, ◌≤◌, ◌<◌, ◌+◌, ◌*◌, ◌^◌, count_by, length, sum_by, take};
+ghost use Rattle.std.specs.Prelude.{◌≡◌, ◌≤◌, ◌<◌, ◌+◌, ◌*◌, ◌^◌, IfSome, count_by, length, sum_by, take};
 ghost use Rattle.jx_edit.specs.inside.Moves.{is_feed, joined};
 ghost use Rattle.jx_edit.specs.Positions.{first, is_behind, past, position_behind, reach, units};
 
@@ -11,11 +11,11 @@ use memchr::memrchr;
 pub struct Position {
     /// The line, counted from 0. A line feed ends a line.
     pub line: usize,
-    /// How many units of its line stand before it. A carriage return is a unit.
+    /// How many units of its line are before it. A carriage return is a unit.
     pub character: usize,
 }
 
-/// How many bytes come before a position, and the position behind them.
+/// How many bytes come before a position, and the position after them.
 #[derive(Clone, Copy)]
 pub(crate) struct Reached {
     pub(crate) count: usize,
@@ -48,7 +48,7 @@ impl Position {
         }
     }
 
-    /// The position behind a byte that stands at this one.
+    /// The position after a byte that stands at this one.
     fn past(self, byte: u8, encoding: Encoding) -> Position
         requires { (self.line + 1 < 2 ^ 64) × (self.character + 2 < 2 ^ 64) }
         ensures { result ≡ past encoding self byte }
@@ -65,7 +65,7 @@ impl Position {
         }
     }
 
-    /// The position behind bytes that stand at this one, and that come to the other from the start of a text.
+    /// The position after bytes that begin at this one, and that lead to the other from the start of a text.
     pub(crate) fn joined(self, other: Position) -> Position
         requires { (self.line + other.line < 2 ^ 64) × (self.character + other.character < 2 ^ 64) }
         ensures { result ≡ joined self other }
@@ -82,7 +82,20 @@ impl Position {
         }
     }
 
-    /// Whether it stands behind another.
+    /// The position after bytes that begin at this one; none where a word does not count so far.
+    pub fn after(self, bytes: &[u8], encoding: Encoding) -> Option<Position>
+        ensures { IfSome result (λ position. position ≡ position_behind encoding self bytes.now) }
+    {
+        let moved = behind(bytes, encoding);
+        let is_far = usize::MAX - self.line < moved.line
+            || usize::MAX - self.character < moved.character;
+        if is_far {
+            return None;
+        }
+        Some(self.joined(moved))
+    }
+
+    /// Whether it is after another.
     pub(crate) fn is_behind(self, other: Position) -> bool
         ensures { result ≡ is_behind self other }
     {
@@ -108,7 +121,7 @@ fn width(bytes: &[u8], encoding: Encoding) -> usize
     width
 }
 
-/// The position behind bytes with which a text begins.
+/// The position after bytes with which a text begins.
 pub(crate) fn behind(bytes: &[u8], encoding: Encoding) -> Position
     ensures { result ≡ position_behind encoding first bytes.now }
 {
@@ -124,7 +137,7 @@ pub(crate) fn behind(bytes: &[u8], encoding: Encoding) -> Position
     }
 }
 
-/// How many bytes that stand at one position come before the next position is behind another.
+/// How many bytes that stand at one position come before the next position is after another.
 pub(crate) fn reach(bytes: &[u8], from: Position, to: Position, encoding: Encoding) -> Reached
     requires lines { from.line + length bytes.now < 2 ^ 64 }
     requires characters { from.character + 2 * length bytes.now < 2 ^ 64 }

@@ -7,7 +7,7 @@ use crate::chunking::chunk::Chunk;
 use crate::positions::encoding::Encoding;
 use crate::positions::position::{Position, Reached};
 
-/// The position behind so many bytes of chunks of which the first stands at one, or behind all of them.
+/// The position after so many bytes of chunks of which the first stands at one, or after all of them.
 pub(crate) fn position_in(
     chunks: &[Chunk],
     from: Position,
@@ -33,7 +33,7 @@ pub(crate) fn position_in(
     position
 }
 
-/// How many bytes of chunks, of which the first stands at one position, come before the next position is behind another.
+/// How many bytes of chunks, of which the first stands at one position, come before the next position is after another.
 pub(crate) fn reach_in(
     chunks: &[Chunk],
     from: Position,

@@ -67,7 +67,7 @@ impl Steps {
         Ok(Steps { encoding, steps })
     }
 
-    /// The position behind so many of the bytes whose steps these are.
+    /// The position after so many of the bytes whose steps these are.
     pub(crate) fn position_behind(&self, bytes: &[u8], at: usize) -> Position
         requires steps { AreSteps bytes.now self.now }
         requires within { at ≤ length bytes.now }
@@ -84,7 +84,7 @@ impl Steps {
         behind(&bytes[..at], self.encoding)
     }
 
-    /// The last step that is not behind a position, where the bytes whose steps these are stand at another one; their start where
+    /// The last step that is not after a position, where the bytes whose steps these are stand at another one; their start where
     /// none is.
     fn last_before(&self, bytes: &[u8], from: Position, to: Position) -> Reached
         requires steps { AreSteps bytes.now self.now }
@@ -107,7 +107,7 @@ impl Steps {
         last
     }
 
-    /// How many of the bytes whose steps these are, which stand at one position, come before the next position is behind another.
+    /// How many of the bytes whose steps these are, which stand at one position, come before the next position is after another.
     pub(crate) fn reach(&self, bytes: &[u8], from: Position, to: Position) -> Reached
         requires steps { AreSteps bytes.now self.now }
         requires lines { from.line + length bytes.now < 2 ^ 64 }

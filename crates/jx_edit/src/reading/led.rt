@@ -14,7 +14,7 @@ use jx_reduce::{KnownStack, Outcome, Whole};
 use jx_run::OutcomeRun;
 use std::alloc::{AllocError, Global};
 
-/// Where bytes lead: to a place, or to a fault so many bytes behind the first of them.
+/// Where bytes lead: to a place, or to a fault so many bytes after the first of them.
 #[derive(Drop)]
 pub(crate) enum Led {
     On(Place),
@@ -22,7 +22,7 @@ pub(crate) enum Led {
     TooDeep(usize),
 }
 
-/// Where a track that ends there leads, and what its marks come to.
+/// Where a track that ends there leads, with the outcome of its tokens.
 fn arrived(exit: LexExit, outcome: Outcome) -> Led
     ensures { reading_in result ≡ at_exit (exit_of exit) (reading_of outcome) }
 {
@@ -53,7 +53,7 @@ pub(crate) fn follow_run(from: &Place, run: &OutcomeRun) -> Result<Led, AllocErr
     Ok(arrived(exit, outcome))
 }
 
-/// What a known stack has come to.
+/// The outcome of the tokens that a known stack was given.
 fn outcome_of(stack: &mut KnownStack) -> Result<Outcome, AllocError>
     ensures { IfOk result (λ o. reading_of o ≡ stack.old.reading) }
 {
@@ -67,7 +67,7 @@ fn outcome_of(stack: &mut KnownStack) -> Result<Outcome, AllocError>
     }
 }
 
-/// What marks come to from a place.
+/// The outcome of tokens from a place.
 fn read_marks(
     alloc: Global,
     from: &Place,
@@ -84,7 +84,7 @@ fn read_marks(
     Ok(outcome)
 }
 
-/// Where bytes lead from a place, as `follow_run` tells it, by reading each of them.
+/// Where bytes lead from a place, as by `follow_run`, by reading each of them.
 pub(crate) fn follow_bytes(
     alloc: Global,
     from: &Place,

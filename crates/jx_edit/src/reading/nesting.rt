@@ -1,4 +1,4 @@
-// How deeply bytes nest, as far as brackets tell.
+// How deeply bytes nest, by their brackets and braces alone.
 
 use std::simd::prelude::*;
 
@@ -7,7 +7,7 @@ const DEEP: i64 = 64;
 
 /// How many containers more the bytes open than they close.
 fn opened(block: u8x32) -> i64 {
-    // In ASCII this bit alone tells brackets from braces.
+    // In ASCII brackets differ from braces in this bit alone.
     let folded = block | u8x32::splat(0x20);
     let opens = folded.simd_eq(u8x32::splat(b'{')).to_bitmask();
     let closes = folded.simd_eq(u8x32::splat(b'}')).to_bitmask();

@@ -1,4 +1,4 @@
-// Where reading a text has come to.
+// A place in the reading of a text.
 ghost use Rattle.std.specs.Prelude.{◌≡◌, true};
 ghost use Rattle.jx_edit.specs.inside.Places.{came_to, origin};
 ghost use Rattle.jx_run.specs.Laws.{verdict_of};

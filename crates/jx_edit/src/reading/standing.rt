@@ -15,12 +15,12 @@ use jx_lex::{Depth, LexState};
 use jx_reduce::{Expect, Holder};
 use std::alloc::{AllocError, Global};
 
-/// Where a reading stands behind bytes that begin a text.
+/// Where a reading is after bytes with which a text begins.
 #[derive(Debug, Drop)]
 pub struct Stand {
     /// How far it is in a token, or that it stands between two.
     pub state: LexState,
-    /// What may stand next between tokens.
+    /// The expectation between tokens.
     pub expect: Expect,
     /// The open containers, outermost first.
     pub holders: Vec<Holder>,
@@ -41,7 +41,7 @@ fn are_linked_in(chunks: &[Chunk], group: usize, count: usize) -> bool
     true
 }
 
-/// The same. None of the chunks is looked at where all are known to be linked.
+/// Whether each chunk of a group is linked. None of the chunks is looked at where all are known to be linked.
 fn is_group_linked(chunks: &[Chunk], sums: &[Sum], group: usize, count: usize) -> bool
     requires sums { AreSums chunks.now sums.now }
     requires group { group < length sums.now }
@@ -84,8 +84,8 @@ fn place_behind<'a>(chunks: &'a [Chunk], first: &'a Place, count: usize, depth: 
     before.place()
 }
 
-/// Where a reading stands behind so many bytes of a text, where these begin one and the chunks before the last of these bytes
-/// are known to be linked, as they are behind a verdict. The bytes of one chunk are read.
+/// Where a reading is after so many bytes of a text, where a text begins with these and the chunks before the last of these bytes
+/// are known to be linked, as they are after a verdict. The bytes of one chunk are read.
 pub(crate) fn stand_behind(
     alloc: Global,
     depth: Depth,

@@ -1,4 +1,4 @@
-// Where chunks lead, one behind another.
+// Where chunks lead, one after another.
 ghost use Rattle.std.specs.Prelude.{◌≡◌, ◌≤◌, ◌<◌, ◌+◌, ◌*◌, ◌^◌, IfOk, IfSome, IsNone, length, map, take};
 ghost use Rattle.jx_edit.specs.inside.Chunks.{bytes_of, text_of};
 ghost use Rattle.jx_edit.specs.inside.Leads.{reading_in, IsLedWithin};
@@ -14,10 +14,10 @@ use crate::chunking::sums::{GROUP, Sum, chunks_before};
 use crate::reading::led::Led;
 use crate::reading::place::Place;
 use jx_lex::Depth;
-use jx_run::{Refusal, Verdict, reader_is_grammar};
+use jx_run::{Refusal, Verdict, reader_and_grammar};
 use std::alloc::{AllocError, Global};
 
-/// What became of a reading with one chunk more.
+/// The result of reading one chunk more.
 #[derive(Clone, Copy)]
 enum Step {
     On,
@@ -106,7 +106,7 @@ fn go_on(
     ensures count { length sums.new ≡ length sums.old }
     ensures reached { IfOk result (IsReached depth start (number + 1) chunks.new) }
 {
-    reader_is_grammar();
+    reader_and_grammar();
     if chunks[number].is_linked() {
         return Ok(Step::On);
     }
@@ -121,7 +121,7 @@ fn go_on(
     }
 }
 
-/// Goes on with the chunks of a group, one behind another, where the text of those before it was read. A fault in them is that
+/// Goes on with the chunks of a group, one after another, where the text of those before it was read. A fault in them is that
 /// of the whole text, as is a depth that is too great.
 fn walk_group(
     chunks: &mut [Chunk],
@@ -144,7 +144,7 @@ fn walk_group(
     ensures refused { IfOk result (λ r. IfSome r (λ refusal. Judged start (text_of chunks.old) depth (Refused refusal))) }
     ensures walked { IfOk result (λ r. IsNone r → IsWalked depth start ((group + 1) * 64) chunks.new) }
 {
-    reader_is_grammar();
+    reader_and_grammar();
     let mut offset = offset;
     let begin = chunks_before(group, chunks.len());
     let end = begin.saturating_add(GROUP).min(chunks.len());
@@ -161,7 +161,7 @@ fn walk_group(
     Ok(None)
 }
 
-/// The same. None of the chunks is looked at where all are known to be linked.
+/// Goes on with the chunks of a group. None of the chunks is looked at where all are known to be linked.
 fn pass_group(
     chunks: &mut [Chunk],
     sums: &mut [Sum],
@@ -197,7 +197,7 @@ fn pass_group(
     }
 }
 
-/// The verdict on the bytes of chunks, one behind another, as a text whose first byte has this offset.
+/// The verdict on the bytes of chunks, one after another, as a text whose first byte has this offset.
 pub(crate) fn walk(
     alloc: Global,
     depth: Depth,
@@ -214,7 +214,7 @@ pub(crate) fn walk(
     ensures count { length sums.new ≡ length sums.old }
     ensures verdict { IfOk result (Judged start (text_of chunks.old) depth) }
 {
-    reader_is_grammar();
+    reader_and_grammar();
     let first = Place::origin(alloc);
     let mut offset = start;
     for group in 0..sums.len() {

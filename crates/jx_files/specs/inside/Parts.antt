@@ -44,11 +44,11 @@ pub record IsAnsweredBy (ways : Ways) (command : Command) (word : List ℕ) (ans
   pub answered : IsAnsweredAt ways command word output answer.exit
   pub shown : answer.lines.items ≡ shown_output command.quiet output
 
--- this is written for a word, and nothing is told
+-- this is written for an argument, and there is no message
 abbrev pub IsPartOf : Ways → Command → List ℕ → Part → Type 0
 IsPartOf ways command word part = IsReportedAt ways command word part.lines.items [] part.status
 
--- all that is written for a word was written, and what is told of it was told unless telling failed
+-- all that is written for an argument was written, and so was the message on it unless such a write failed
 pub record ReportsOne (ways : Ways) (command : Command) (word : List ℕ) (written grown : Option (List ℕ)) (is_lost : Bool) (told retold : Option (List ℕ)) (status : Status) : Type 0 where
   pub output : List ℕ
   pub tells : List ℕ

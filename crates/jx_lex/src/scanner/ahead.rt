@@ -52,7 +52,7 @@ impl Ahead {
         }
     }
 
-    /// The same part, after so many bytes that were read one character after another.
+    /// The part after so many bytes that were read one character after another.
     #[inline(always)]
     pub(crate) fn past(self, length: usize) -> Ahead
         ensures sound { (text : List ℕ) → IsSound text self → IsSound text result }

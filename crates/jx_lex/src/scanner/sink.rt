@@ -2,10 +2,12 @@
 ghost use Rattle.std.specs.Prelude.{◌≡◌, ◌++◌, ◌∷◌, ◌≤◌, [], ℕ, Bool, List, IfOk, OnOk, IsTrue, false, length, slice_range, true};
 ghost use Rattle.jx_lex.specs.declared.alphabet.mark.Mark.{Mark};
 ghost use Rattle.jx_lex.specs.declared.alphabet.state.LexState.TheVariants.{Gap};
+ghost use Rattle.jx_lex.specs.Counts.{HasCounts};
 ghost use Rattle.jx_lex.specs.Lex.{lex};
 ghost use Rattle.jx_lex.specs.Seen.{GoesTo, Grows, WantsNoMore, has_end};
 
 use crate::alphabet::mark::Mark;
+use crate::scanner::counts::TokenCounts;
 use std::alloc::AllocError;
 
 /// Takes the tokens that a scan finds. `begin` takes each token start and `end` each end of a string, a number or a
@@ -60,6 +62,31 @@ pub trait TokenSink {
     {
         self.token(mark, to)?;
         Ok(())
+    }
+
+    /// Whether it may take tokens as counts, so that it is worth while to count those that follow. A sink that leaves it
+    /// as it is gets each token.
+    #[inline(always)]
+    fn wants_counts(&self) -> bool {
+        false
+    }
+
+    /// Whether it takes the tokens that have these counts at once, whatever they are.
+    #[inline(always)]
+    fn takes_counts(&self, _counts: &TokenCounts) -> bool {
+        false
+    }
+
+    /// Tokens that have these counts, from between tokens to between tokens. Fails when out of memory, and where
+    /// `takes_counts` says no. Then the sink is of no more use.
+    #[inline(always)]
+    fn counted(&mut self, counts: &TokenCounts) -> Result<(), AllocError>
+        requires turn { awaits self.old false }
+        ensures seen { OnOk result ((marks : List Mark) (ends : List ℕ) → HasCounts marks ends counts.now → Grows (has_seen self.old) (has_seen self.new) marks ends) }
+        ensures turn { OnOk result (awaits self.new false) }
+    {
+        let _ = counts;
+        Err(AllocError)
     }
 
     /// Reads whole tokens by itself, from between tokens on, as many as it likes. Returns the offset after them, which

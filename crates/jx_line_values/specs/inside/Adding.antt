@@ -1,12 +1,15 @@
--- What is told of the pointers of a line by what was found.
+-- The messages on the pointers of a line by what was found.
 use Rattle.std.specs.Prelude.{◌≡◌, ℕ, zero, suc, List, [], ◌∷◌, ◌++◌, Result, map}
+use Rattle.jx_run.specs.declared.texts.settings.FrontMark.{FrontMark}
+use Rattle.jx_run.specs.declared.texts.settings.NameRule.TheVariants.{Any}
+use Rattle.jx_run.specs.declared.texts.settings.Settings.{Settings}
 use Rattle.jx_index.specs.declared.find_fault.FindFault.{FindFault}
 use Rattle.jx_index.specs.declared.finder.Found.{Found}
 use Rattle.jx_ends.specs.declared.exit.Exit.{Exit}
 use Rattle.jx_ends.specs.declared.exit.Exit.TheVariants.{Bad}
 use Rattle.jx_ndjson.specs.Lines.{Line}
 use Rattle.jx_line_values.specs.declared.task.LineValuesTask.{LineValuesTask}
-use Rattle.jx_line_values.specs.LineValues.{IsGiven, LineGiven, tabbed, told_of_found, value_bytes}
+use Rattle.jx_line_values.specs.LineValues.{IsGivenBy, LineGiven, tabbed, told_of_found, value_bytes}
 
 -- of each, in order
 abbrev pub told_of_all : ℕ → List (List ℕ) → List (Result Found FindFault) → List ℕ
@@ -19,7 +22,7 @@ abbrev pub tab_before : ℕ → List ℕ
 tab_before zero = []
 tab_before (suc place) = 0x09 ∷ []
 
--- bad where something is told now, else the exit that there was before
+-- bad where something is reported now, else the status that there was before
 abbrev pub exit_past : Exit → List ℕ → Exit
 exit_past exit [] = exit
 exit_past exit (byte ∷ told) = Bad
@@ -28,9 +31,13 @@ exit_past exit (byte ∷ told) = Bad
 abbrev pub written_of : List ℕ → List (Result Found FindFault) → List ℕ
 written_of bytes found = tabbed (map (value_bytes bytes) found) ++ 10 ∷ []
 
--- what is written for a line stands behind what waited to be written, and what is told of it behind what waited to be told
-pub record IsAdded (task : LineValuesTask) (l : Line) (ready longer told retold : List ℕ) : Type 0 where
+-- the settings for a line that this may stand in front of
+abbrev pub settings_with : LineValuesTask → FrontMark → Settings
+settings_with task mark = record { depth = task.settings.depth; mark = mark; names = Any }
+
+-- the output for a line follows the output that waited, and the messages on it follow the messages that waited
+pub record IsAdded (task : LineValuesTask) (mark : FrontMark) (l : Line) (ready longer told retold : List ℕ) : Type 0 where
   pub given : LineGiven
-  pub is_given : IsGiven task l given
+  pub is_given : IsGivenBy (settings_with task mark) task l given
   pub written : longer ≡ ready ++ given.written
   pub telling : retold ≡ told ++ given.told

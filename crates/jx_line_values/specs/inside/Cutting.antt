@@ -2,6 +2,7 @@
 use Rattle.std.specs.Prelude.{◌≡◌, ℕ, List, [], ◌∷◌, ◌++◌, drop, length, if◌then◌else◌, ◌==◌}
 use Rattle.std.specs.List.{AllZip}
 use Rattle.jx_run.specs.declared.texts.settings.FrontMark.{FrontMark}
+use Rattle.jx_run.specs.declared.texts.settings.FrontMark.TheVariants.{Refused}
 use Rattle.jx_run.specs.Elements.{Part, part}
 use Rattle.jx_ndjson.specs.Lines.{is_line_feed, mark_length}
 use Rattle.jx_ndjson.specs.Parts.{parts_by}
@@ -15,10 +16,10 @@ pub record CutterValue : Type 0 where
   pub kept : List ℕ
   -- how many lines have ended
   pub ended : ℕ
-  -- what waits to be written, and to be told
+  -- the output that waits, and the messages
   pub ready : List ℕ
   pub told : List ℕ
-  -- the exit by what was told
+  -- the status by the messages
   pub exit : Exit
 
 -- the first line, which stands at the offset 0, without a byte order mark in front, where it is ignored
@@ -32,9 +33,13 @@ abbrev pub bare_first : FrontMark → List Part → List Part
 bare_first mark [] = []
 bare_first mark (p ∷ ps) = bare mark p ∷ ps
 
--- the bytes of a line behind so many others
+-- the bytes of a line after so many others
 abbrev pub line_bytes : FrontMark → ℕ → List ℕ → List ℕ
 line_bytes mark ended kept = if ended == 0 then bare_bytes mark kept else kept
+
+-- what may stand in front of it then
+abbrev pub line_mark : FrontMark → ℕ → List ℕ → FrontMark
+line_mark mark ended kept = if ended == 0 then (if mark_length mark kept == 0 then mark else Refused) else Refused
 
 -- it has taken these bytes of an input, from its start; this was written and told of them before what waits
 pub record HasTaken (task : LineValuesTask) (bytes given said : List ℕ) (t : CutterValue) : Type 0 where

@@ -1,4 +1,4 @@
--- What is held of the bytes of a text that were fed.
+-- The state of names after the bytes of a text that were fed.
 use Rattle.std.specs.Prelude.{◌≡◌, ℕ, List, ◌++◌, Option, Some, drop, true}
 use Rattle.jx_lex.specs.declared.alphabet.mark.Mark.{Mark}
 use Rattle.jx_index.specs.inside.Building.{Building}
@@ -6,7 +6,7 @@ use Rattle.jx_index.specs.inside.InOrder.{Comes, IsToken}
 use Rattle.jx_names.specs.declared.open_names.OpenNames.{OpenNames}
 use Rattle.jx_names.specs.inside.KeptNames.{is_name_next, kept, Stands}
 
--- by these marks and ends of some bytes, whatever bytes follow; of a name that has begun the bytes are held
+-- by these token starts and ends of some bytes, whatever bytes follow; of a name that has begun the bytes are kept
 pub record IsHeld (bytes : List ℕ) (marks : List Mark) (ends : List ℕ) (names : OpenNames) (begun : Option Mark) (name : List ℕ) : Type 0 where
   pub building : Building
   pub comes : Comes marks ends building begun

@@ -1,5 +1,5 @@
--- The names of the members of open objects by their units, and what they have to do with the names that stand in a text.
-use Rattle.std.specs.Prelude.{◌≡◌, ℕ, ◌≤◌, List, [], ◌∷◌, ◌++◌, length, take, drop, map, reverse, Option, None, Some, option_to_list, Bool, true, false, slice_range}
+-- The names of the members of open objects by their bytes, and what they have to do with the names that stand in a text.
+use Rattle.std.specs.Prelude.{◌≡◌, ℕ, ◌≤◌, List, [], ◌∷◌, ◌++◌, length, take, drop, map, reverse, Option, None, Some, option_to_list, Bool, true, false, not, slice_range}
 use Rattle.std.specs.List.Sorted.{IsSortedBy, IsStableBy}
 use Rattle.std.specs.Ordering.{nat_cmp, is_lt}
 use Rattle.std.specs.Cmp.Lexicographic.{slice_cmp}
@@ -10,51 +10,51 @@ use Rattle.jx_index.specs.declared.open_names.Holder.{Holder}
 use Rattle.jx_index.specs.Repeats.{IsLeast, IsRepeated}
 use Rattle.jx_index.specs.Units.{units_at}
 use Rattle.jx_index.specs.inside.Building.{Building}
-use Rattle.jx_index.specs.inside.NameKeys.{key_behind}
 use Rattle.jx_index.specs.inside.OpenNames.{Held, IsHeldOf}
 use Rattle.jx_index.specs.inside.Ties.{earlier_of}
-use Rattle.jx_names.specs.declared.name_units.Name.{Name}
+use Rattle.jx_names.specs.declared.name_bytes.Name.{Name}
 use Rattle.jx_names.specs.declared.open_names.Container.{Container}
 use Rattle.jx_names.specs.declared.open_names.OpenNames.{OpenNames}
+use Rattle.jx_names.specs.inside.NameBytes.{key_of_bytes, name_bytes}
 
--- ---- names in a list of units
+-- ---- names in a list of bytes
 
-abbrev pub units_in : List ℕ → Name → List ℕ
-units_in units name = slice_range units name.from name.to
+abbrev pub bytes_in : List ℕ → Name → List ℕ
+bytes_in bytes name = slice_range bytes name.from name.to
 
 abbrev pub start_of : Name → Option ℕ
 start_of name = Some name.at
 
-abbrev pub key_of : Name → ℕ
-key_of name = name.key
+-- the key of a name, and its bytes
+abbrev pub keyed_in : List ℕ → Name → List ℕ
+keyed_in bytes name = name.key ∷ bytes_in bytes name
 
--- at this offset begins one of the names that is not the first, by place, among those of its units
+-- those of units
+abbrev pub keyed : List ℕ → List ℕ
+keyed units = key_of_bytes (name_bytes units) ∷ name_bytes units
+
+-- at this offset begins one of the names that is not the first, by place, among those of its key and bytes
 abbrev pub IsRepeatedKept : List ℕ → List Name → ℕ → Type 0
-IsRepeatedKept units names at = IsRepeated (units_in units) start_of names at
+IsRepeatedKept bytes names at = IsRepeated (keyed_in bytes) start_of names at
 
--- by rising units; equal names by place
-pub record IsInUnitOrder (units : List ℕ) (names sorted : List Name) : Type 0 where
-  pub rising : IsSortedBy (λ a b. is_lt (slice_cmp nat_cmp (units_in units a) (units_in units b))) sorted
-  pub stable : IsStableBy (λ a b. is_lt (slice_cmp nat_cmp (units_in units a) (units_in units b))) names sorted
-
--- each has the key of its units
-abbrev pub HaveKeys : List ℕ → List Name → Type 0
-HaveKeys units [] = Unit {0}
-HaveKeys units (name ∷ names) = (name.key ≡ key_behind 0 (units_in units name)) × HaveKeys units names
+-- by rising keys, then bytes; equal names by place
+pub record IsInKeyOrder (bytes : List ℕ) (names sorted : List Name) : Type 0 where
+  pub rising : IsSortedBy (λ a b. is_lt (slice_cmp nat_cmp (keyed_in bytes a) (keyed_in bytes b))) sorted
+  pub stable : IsStableBy (λ a b. is_lt (slice_cmp nat_cmp (keyed_in bytes a) (keyed_in bytes b))) names sorted
 
 -- ---- what is kept
 
--- open containers, innermost first, the names of all of them, the units of these and of a name whose value is still to come,
+-- open containers, innermost first, the names of all of them, the bytes of these and of a name whose value is still to come,
 -- that name, and the first name that an ended object repeats
 pub record Kept : Type 0 where
   pub opened : List Container
   pub names : List Name
-  pub units : List ℕ
+  pub bytes : List ℕ
   pub name : Option Name
   pub first : Option ℕ
 
 abbrev pub kept : OpenNames → Kept
-kept names = record { opened = reverse names.opened.items; names = names.names.items; units = names.units.items; name = names.name; first = names.first }
+kept names = record { opened = reverse names.opened.items; names = names.names.items; bytes = names.bytes.items; name = names.name; first = names.first }
 
 abbrev pub with_value : Kept → Kept
 with_value k = record k { names = k.names ++ option_to_list k.name; name = None }
@@ -71,27 +71,27 @@ with_container is_object k =
 abbrev pub with_name : ℕ → List ℕ → Kept → Kept
 with_name at units k =
     record k {
-      units = k.units ++ units;
-      name = Some (record { at = at; from = length k.units; to = length (k.units ++ units); key = key_behind 0 units });
+      bytes = k.bytes ++ name_bytes units;
+      name = Some (record { at = at; from = length k.bytes; to = length (k.bytes ++ name_bytes units); key = key_of_bytes (name_bytes units) });
     }
 
--- where the units of the last name end
+-- where the bytes of the last name end
 abbrev pub end_from : ℕ → List Name → ℕ
 end_from low [] = low
 end_from low (name ∷ names) = end_from name.to names
 
--- the units that belong to names, where none waits
+-- the bytes that belong to names, where none waits
 abbrev pub cut_back : List ℕ → List Name → Option Name → List ℕ
-cut_back units names None = take (end_from 0 names) units
-cut_back units names (Some name) = units
+cut_back bytes names None = take (end_from 0 names) bytes
+cut_back bytes names (Some name) = bytes
 
--- what is repeated in a container that ends, whose names are those behind so many
+-- what is repeated in a container that ends, whose names are those after so many
 pub record EndsIn (old : Kept) (top : Container) (outer : List Container) (new : Kept) : Type 0 where
   pub repeated : Option ℕ
-  pub in_object : top.is_object ≡ true → HaveKeys old.units (drop top.before old.names) → IsLeast (IsRepeatedKept old.units (drop top.before old.names)) repeated
+  pub in_object : top.is_object ≡ true → IsLeast (IsRepeatedKept old.bytes (drop top.before old.names)) repeated
   pub in_array : top.is_object ≡ false → repeated ≡ None
   pub is : new
-      ≡ record old { opened = outer; names = take top.before old.names; units = cut_back old.units (take top.before old.names) old.name; first = earlier_of old.first repeated }
+      ≡ record old { opened = outer; names = take top.before old.names; bytes = cut_back old.bytes (take top.before old.names) old.name; first = earlier_of old.first repeated }
 
 abbrev pub Ends : List Container → Kept → Kept → Type 0
 Ends [] old new = new ≡ old
@@ -101,43 +101,47 @@ abbrev pub names_next : List Container → Option Name → Bool
 names_next (top ∷ outer) None = top.is_object
 names_next _ _ = false
 
--- a mark of this kind, if it comes next, begins a name
+-- a value that comes next is a child of an array
+abbrev pub is_child_next : List Container → Option Name → Bool
+is_child_next (top ∷ outer) None = not top.is_object
+is_child_next _ _ = false
+
+-- a token start of this kind, if it comes next, begins a name
 abbrev pub is_name_next : MarkKind → Kept → Bool
 is_name_next mark.String k = names_next k.opened k.name
 is_name_next _ k = false
 
 -- ---- what it has to do with a text
 
--- a name with the units of the one at a span of the text; those of the names before it end at `low`
-pub record IsKeptName (text units : List ℕ) (low : ℕ) (s : Span) (name : Name) : Type 0 where
+-- a name with the key and the bytes of the one at a span of the text; the bytes of the names before it end at `low`
+pub record IsKeptName (text bytes : List ℕ) (low : ℕ) (s : Span) (name : Name) : Type 0 where
   pub at : name.at ≡ s.start
   pub above : low ≤ name.to
   pub order : name.from ≤ name.to
-  pub within : name.to ≤ length units
-  pub units_are : units_in units name ≡ units_at text s
-  pub key : name.key ≡ key_behind 0 (units_in units name)
+  pub within : name.to ≤ length bytes
+  pub is_keyed : keyed_in bytes name ≡ keyed (units_at text s)
 
--- one behind another
+-- one after another
 abbrev pub AreKept : List ℕ → List ℕ → ℕ → List Span → List Name → Type 0
-AreKept text units low [] [] = Unit {0}
-AreKept text units low (s ∷ spans) (name ∷ names) = IsKeptName text units low s name × AreKept text units name.to spans names
-AreKept text units low [] (name ∷ names) = ⊥
-AreKept text units low (s ∷ spans) [] = ⊥
+AreKept text bytes low [] [] = Unit {0}
+AreKept text bytes low (s ∷ spans) (name ∷ names) = IsKeptName text bytes low s name × AreKept text bytes name.to spans names
+AreKept text bytes low [] (name ∷ names) = ⊥
+AreKept text bytes low (s ∷ spans) [] = ⊥
 
 abbrev pub IsKeptToo : List ℕ → List ℕ → ℕ → Option Span → Option Name → Type 0
-IsKeptToo text units low None None = Unit {0}
-IsKeptToo text units low (Some s) (Some name) = IsKeptName text units low s name
-IsKeptToo text units low None (Some name) = ⊥
-IsKeptToo text units low (Some s) None = ⊥
+IsKeptToo text bytes low None None = Unit {0}
+IsKeptToo text bytes low (Some s) (Some name) = IsKeptName text bytes low s name
+IsKeptToo text bytes low None (Some name) = ⊥
+IsKeptToo text bytes low (Some s) None = ⊥
 
 abbrev pub holder : Container → Holder
 holder c = record { is_object = c.is_object; before = c.before }
 
--- what is held of a text by spans is kept by units
+-- what is held of a text by spans is kept by bytes
 pub record IsKept (text : List ℕ) (h : Held) (k : Kept) : Type 0 where
   pub opened : h.opened ≡ map holder k.opened
-  pub names : AreKept text k.units 0 h.names k.names
-  pub name : IsKeptToo text k.units (end_from 0 k.names) h.name k.name
+  pub names : AreKept text k.bytes 0 h.names k.names
+  pub name : IsKeptToo text k.bytes (end_from 0 k.names) h.name k.name
   pub first : h.first ≡ k.first
 
 -- what is kept of a text from which this is built

@@ -7,11 +7,11 @@ use Rattle.jx_index.specs.inside.InOrder.{Comes, IsToken}
 use Rattle.jx_names.specs.declared.open_names.OpenNames.{OpenNames}
 use Rattle.jx_names.specs.inside.KeptNames.{is_name_next, kept, Stands}
 
--- which bytes, marks and ends something may have been held of
+-- the bytes, token starts and ends that a state may be of
 abbrev pub Holds : Type 1
 Holds = List ℕ → List Mark → List ℕ → Type 0
 
--- of a name that has begun before the slice the bytes before the slice are held
+-- of a name that has begun before the slice the bytes before the slice are kept
 pub record IsToldOf (before slice : List ℕ) (marks : List Mark) (ends : List ℕ) (names : OpenNames) (begun : Option Mark) (name : List ℕ) : Type 0 where
   pub building : Building
   pub comes : Comes marks ends building begun
@@ -19,7 +19,7 @@ pub record IsToldOf (before slice : List ℕ) (marks : List Mark) (ends : List �
   pub token : IsToken begun
   pub name_is : (m : Mark) → begun ≡ Some m → is_name_next m.kind (kept names) ≡ true → m.at < length before → name ≡ drop m.at before
 
--- whatever was held at the slice's start, these marks and ends of the slice were told behind it
+-- whatever the state at the slice's start, these token starts and ends of the slice were taken after it
 pub record HasTold (held : Holds) (slice : List ℕ) (marks : List Mark) (ends : List ℕ) (own : List ℕ) (base : ℕ) (names : OpenNames) (begun : Option Mark) (name : List ℕ) : Type 0 where
   pub slice_is : own ≡ slice
   pub base_is : (before : List ℕ) (ms : List Mark) (es : List ℕ) → held before ms es → base ≡ length before

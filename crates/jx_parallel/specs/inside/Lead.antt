@@ -15,7 +15,7 @@ pub record IsLead (known : Option (List ℕ)) (settings : Settings) (reader : Re
   pub read : HasRead bytes reader
   pub there : StandThere known 0 bytes
 
--- a run stands where the reader has come to, and no byte order mark may stand there
+-- a partial result begins where the reader ended, and no byte order mark may be there
 pub record FollowsLead (reader : ReaderValue) (run : KeptValue) : Type 0 where
   pub behind : run.at ≡ reader.count
   pub past_front : IsInFront reader → ⊥

@@ -10,7 +10,7 @@ pub record PlacedValue (Part : Type 0) : Type 0 where
 abbrev pub placed : {Part : Type 0} → Part → ℕ → ℕ → PlacedValue Part
 placed part at len = record { part = part; at = at; len = len }
 
--- so many bytes come to it; where the text is known, they are those that stand there
+-- it begins after so many bytes; where the text is known, its bytes are those there
 pub record IsPlaced {Part : Type 0} (known : Option (List ℕ)) (is_part : ℕ → List ℕ → Part → Type 0) (p : PlacedValue Part) : Type 0 where
   pub bytes : List ℕ
   pub long : length bytes ≡ p.len

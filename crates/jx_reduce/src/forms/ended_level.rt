@@ -33,7 +33,7 @@ impl EndedLevel {
         self.array.is_some() && self.object.is_some()
     }
 
-    /// The same faults, in a level that may have ended or not.
+    /// The level with these faults, which may have ended or not.
     pub(crate) fn level(self) -> Level
         ensures { result ≡ level_of self }
     {

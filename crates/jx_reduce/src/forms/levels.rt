@@ -151,7 +151,7 @@ impl Levels {
         self.take_in(depth, right)
     }
 
-    /// The same form, borrowed.
+    /// The form, borrowed.
     pub fn borrowed(&self) -> FormRef<'_>
         ensures { borrowed_form result ≡ form_of self.now }
     {

@@ -37,14 +37,14 @@ pub struct StructureParts {
     pub rest: Option<RestParts>,
 }
 
-/// The same as `RestParts`, borrowed.
+/// `RestParts`, borrowed.
 #[derive(Clone, Copy)]
 pub struct RestRef<'a> {
     pub mark: Mark,
     pub tail: FormRef<'a>,
 }
 
-/// The same as `StructureParts`, borrowed.
+/// `StructureParts`, borrowed.
 #[derive(Clone, Copy)]
 pub struct StructureRef<'a> {
     pub string: Option<usize>,

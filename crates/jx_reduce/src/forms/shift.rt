@@ -9,7 +9,7 @@ use crate::forms::level::Level;
 pub(crate) trait Shift: Copy {
     ghost shift: { ℕ → Self → Self };
 
-    /// The same value so many bytes further on.
+    /// The value so many bytes further on.
     fn shifted(self, by: usize) -> Self
         ensures { result ≡ shift by self };
 }

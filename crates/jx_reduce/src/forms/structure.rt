@@ -478,7 +478,7 @@ impl Structure {
         }
     }
 
-    /// The same in the making, where more tokens are read one by one.
+    /// The structure in the making, where more tokens are read one by one.
     pub(crate) fn into_making(self) -> Making
         ensures same { of_making self.depth result ≡ self }
         ensures sound { IsSound self }

@@ -299,7 +299,7 @@ impl Reduced {
         Some(Reduced { depth, levels })
     }
 
-    /// The same form, borrowed.
+    /// The form, borrowed.
     pub(crate) fn borrowed(&self) -> FormRef<'_>
         ensures { borrowed_form result ≡ form_in self.now }
     {

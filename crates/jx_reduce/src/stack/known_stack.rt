@@ -11,11 +11,11 @@ ghost use Rattle.jx_lex.specs.Lex.{lex};
 ghost use Rattle.jx_lex.specs.Lex as exits;
 ghost use Rattle.jx_lex.specs.Seen.{SeesTrack};
 
+use crate::stack::blocks::stretches;
 use crate::stack::containers::Containers;
 use crate::stack::open_containers::OpenContainers;
 use crate::stack::pass::{may_pass, pass_tokens};
 use crate::stack::watch::Listener;
-use crate::stack::whole_tokens::rounds;
 use crate::table::expect::Expect;
 use crate::table::holder::Holder;
 use crate::table::moves::next;
@@ -224,7 +224,8 @@ impl KnownStack {
         at
     }
 
-    /// Reads whole tokens as `pass` does, and hands each to a sink in one call. Once the sink has failed, it takes nothing more.
+    /// Reads whole tokens as `pass` does, and hands each to a sink in one call, or many of them by their counts where it takes these.
+    /// Once the sink has failed, it takes nothing more.
     #[inline(always)]
     pub fn pass_into<K: TokenSink + Drop>(
         &mut self,
@@ -249,7 +250,7 @@ impl KnownStack {
             return from;
         }
         let most = self.depth.containers() as usize;
-        let (at, expect) = rounds(text, from, to, self.expect, &mut self.open, most, listener);
+        let (at, expect) = stretches(text, from, to, self.expect, &mut self.open, most, listener);
         self.expect = expect;
         at
     }

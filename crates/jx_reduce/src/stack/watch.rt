@@ -1,10 +1,11 @@
 // Observers of whole tokens.
 ghost use Rattle.std.specs.Prelude.{◌≡◌, ◌∷◌, [], ℕ, List, false, true};
 ghost use Rattle.jx_lex.specs.declared.alphabet.mark.Mark.{Mark as MarkOf};
+ghost use Rattle.jx_lex.specs.Counts.{HasCounts};
 ghost use Rattle.jx_lex.specs.Seen.{Grows, has_end};
 ghost use Rattle.jx_reduce.specs.inside.Told.{awaits_mark, heard};
 
-use jx_lex::{Mark, TokenSink};
+use jx_lex::{Mark, TokenCounts, TokenSink};
 
 /// An observer of whole tokens as they are read: it takes each token in one call, and no call fails.
 pub(crate) trait Watch {
@@ -33,6 +34,18 @@ pub(crate) trait Watch {
         requires turn { awaits self.old }
         ensures seen { Grows (has_seen self.old) (has_seen self.new) (mark ∷ []) (to ∷ []) }
         ensures turn { awaits self.new };
+
+    /// Whether it may take the tokens of a block by their counts.
+    fn wants_counts(&self) -> bool;
+
+    /// Whether it takes the tokens that have these counts at once.
+    fn takes_counts(&self, counts: &TokenCounts) -> bool;
+
+    /// Tokens that have these counts.
+    fn counted(&mut self, counts: &TokenCounts)
+        requires turn { awaits self.old }
+        ensures seen { (marks : List MarkOf) (ends : List ℕ) → HasCounts marks ends counts.now → Grows (has_seen self.old) (has_seen self.new) marks ends }
+        ensures turn { awaits self.new };
 }
 
 /// Looks at nothing.
@@ -52,6 +65,19 @@ impl Watch for Nothing {
 
     #[inline(always)]
     fn named(&mut self, _mark: Mark, _to: usize) {}
+
+    #[inline(always)]
+    fn wants_counts(&self) -> bool {
+        true
+    }
+
+    #[inline(always)]
+    fn takes_counts(&self, _counts: &TokenCounts) -> bool {
+        true
+    }
+
+    #[inline(always)]
+    fn counted(&mut self, _counts: &TokenCounts) {}
 }
 
 /// A sink of tokens that looks on. Once out of memory it takes nothing more, and has failed.
@@ -84,6 +110,23 @@ impl<K: TokenSink + Drop> Watch for Listener<K> {
     fn named(&mut self, mark: Mark, to: usize) {
         if !self.has_failed {
             self.has_failed = self.sink.named(mark, to).is_err();
+        }
+    }
+
+    #[inline(always)]
+    fn wants_counts(&self) -> bool {
+        self.sink.wants_counts()
+    }
+
+    #[inline(always)]
+    fn takes_counts(&self, counts: &TokenCounts) -> bool {
+        self.sink.takes_counts(counts)
+    }
+
+    #[inline(always)]
+    fn counted(&mut self, counts: &TokenCounts) {
+        if !self.has_failed {
+            self.has_failed = self.sink.counted(counts).is_err();
         }
     }
 }

@@ -7,10 +7,10 @@ ghost use Rattle.jx_lex.specs.Exit.{exit_of};
 ghost use Rattle.jx_run.specs.Verdict.{Judged};
 ghost use Rattle.jx_run.specs.declared.texts.verdict.Verdict.TheVariants.{Accepted};
 
-use crate::laws::reader_is_grammar;
+use crate::laws::reader_and_grammar;
 use crate::runs::outcome_run::verdict_from;
 use crate::texts::verdict::Verdict;
-use jx_lex::{Depth, LexExit, LexState, Mark, TokenSink, pieces_are_read_in_turn, scan};
+use jx_lex::{Depth, LexExit, LexState, Mark, TokenSink, lex_of_two_parts, scan};
 use jx_reduce::{KnownStack, Listener};
 use std::alloc::{AllocError, Global};
 
@@ -96,7 +96,7 @@ fn scan_by<K: TokenSink, P: Pace>(
     ensures exit { IfOk result (λ exit. IfSome exit (λ e. exit_of e ≡ (lex Gap from (slice_range text.now from to)).exit)) }
     ensures done { IfOk result (λ exit. IsNone exit → WantsNoMore (K.has_seen sink.new)) }
 {
-    pieces_are_read_in_turn();
+    lex_of_two_parts();
     let mut state = LexState::Gap;
     let mut at = from;
     while at < to {
@@ -139,7 +139,7 @@ pub fn read_into<K: TokenSink + Drop, P: Pace>(
     ensures seen { IfOk result (λ told. told.verdict ≡ Accepted → (ends : List ℕ) → K.has_seen sink [] ends
         → K.has_seen told.sink (lex Gap from (slice_range text.now from to)).marks (ends ++ (lex Gap from (slice_range text.now from to)).ends)) }
 {
-    reader_is_grammar();
+    reader_and_grammar();
     let mut both = Beside {
         stack: KnownStack::new(alloc, depth),
         other: Listener {

@@ -15,7 +15,7 @@ ghost use Rattle.jx_run.specs.Settings.{JudgedBy};
 ghost use Rattle.jx_run.specs.declared.texts.settings.FrontMark.{FrontMark};
 ghost use Rattle.jx_run.specs.declared.texts.settings.Settings.{Settings};
 
-use crate::laws::reader_is_grammar;
+use crate::laws::reader_and_grammar;
 use crate::runs::outcome_run::verdict_from;
 use crate::texts::byte_order_mark::count_agreed;
 use crate::texts::settings::FrontMark;
@@ -194,7 +194,7 @@ fn read_front<S: OpenStack>(
     ensures reads { IfOk result (λ next. (settings : Settings) (start : ℕ) (bytes : List ℕ) → base ≡ start + length bytes
         → IsReadTo settings start bytes (Progress.Front before) (S.known stack.old) → IsReadTo settings start (bytes ++ slice.now) next (S.known stack.new)) }
 {
-    reader_is_grammar();
+    reader_and_grammar();
     let count = count_agreed(slice, before);
     let more = count - before;
     if count == 3 {
@@ -229,7 +229,7 @@ pub fn read_beginning<S: OpenStack>(
         → IsReadTo settings start bytes progress (S.known stack.old) → IsReadTo settings start (bytes ++ take to slice.now) next (S.known stack.new)) }
     ensures failed { progress ≡ Progress.Failed → IsErr result }
 {
-    reader_is_grammar();
+    reader_and_grammar();
     match progress {
         Progress::Front(before) => read_front(stack, before, &slice[..to], base),
         Progress::Going(state) => read_slice(stack, state, slice, to, base),
@@ -266,7 +266,7 @@ pub fn verdict_at(progress: Progress, whole: Whole) -> Verdict
         → outcome_at progress reading ≡ Some (read_by settings.mark settings.depth start bytes) → JudgedBy settings start bytes result }
     ensures failed { progress ≡ Progress.Failed → result ≡ Verdict.Refused Refusal.Truncated }
 {
-    reader_is_grammar();
+    reader_and_grammar();
     match progress {
         Progress::Going(state) => verdict_from(LexExit::State(state), whole),
         Progress::Stopped(at) => Verdict::Refused(Refusal::Stopped { at }),

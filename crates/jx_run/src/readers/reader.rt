@@ -11,7 +11,7 @@ ghost use Rattle.jx_run.specs.Reader.{HasRead, HasFailed, IsInFront, Outcome as 
 ghost use Rattle.jx_run.specs.Settings.{JudgedBy};
 ghost use Rattle.jx_run.specs.Telling.{AwaitsBehind, SeesPast, standing_of, track_of};
 
-use crate::laws::reader_is_grammar;
+use crate::laws::reader_and_grammar;
 use crate::readers::progress::{
     OpenStack, Progress, progress_at_start, read_beginning, read_on, settled, verdict_at,
 };
@@ -242,7 +242,7 @@ impl Reader {
         ensures err { OnErr result (HasFailed self.new) }
         ensures failed { HasFailed self.old → IsErr result }
     {
-        reader_is_grammar();
+        reader_and_grammar();
         let base = self.start + self.count;
         self.count += run.span().end;
         let state = match self.progress {

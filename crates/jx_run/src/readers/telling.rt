@@ -15,10 +15,10 @@ ghost use Rattle.jx_run.specs.declared.texts.settings.FrontMark.{FrontMark};
 ghost use Rattle.jx_run.specs.declared.texts.settings.Settings.{Settings};
 ghost use Rattle.jx_run.specs.declared.texts.verdict.Verdict.TheVariants.{Accepted};
 
-use crate::laws::{reader_is_grammar, verdict_by_settings_is_one};
+use crate::laws::{reader_and_grammar, unique_verdict_by_settings};
 use crate::readers::progress::{Progress, settled};
 use crate::texts::byte_order_mark::count_agreed;
-use jx_lex::{LexState, Mark, TokenSink, pieces_are_read_in_turn, scan};
+use jx_lex::{LexState, Mark, TokenSink, lex_of_two_parts, scan};
 use jx_reduce::{KnownStack, Listener};
 use std::alloc::AllocError;
 use std::marker::{Brand, PhantomData};
@@ -114,15 +114,15 @@ pub fn slices_are_told_in_turn()
         → is_fault (Some (read_by mark limit 0 bytes)) ≡ false }
     ensures none { (mark : FrontMark) → tokens_by mark [] ≡ no_tokens }
 {
-    pieces_are_read_in_turn();
+    lex_of_two_parts();
 }
 
 /// The tokens of an accepted text are those of the bytes after what stands in front of it.
 pub fn accepted_texts_stand_behind_fronts()
     ensures { (settings : Settings) (bytes : List ℕ) → JudgedBy settings 0 bytes Accepted → IsAcceptedFrom settings bytes }
 {
-    reader_is_grammar();
-    verdict_by_settings_is_one();
+    reader_and_grammar();
+    unique_verdict_by_settings();
 }
 
 /// Reads a slice that stands from `base` on, from an offset in it to its end, and gives its tokens to the sink.
@@ -187,7 +187,7 @@ fn tell_front<K: TokenSink + Drop>(
         (track_in_front before (before + agreed slice.now (drop before byte_order_mark)) slice.now).marks (track_in_front before (before + agreed slice.now (drop before byte_order_mark)) slice.now).ends) }
     ensures turn { IfOk result (λ told. (after : Outcome) → outcome_at told.progress told.stack.reading ≡ Some after → AwaitsBehind (K.awaits told.sink) after) }
 {
-    reader_is_grammar();
+    reader_and_grammar();
     let count = count_agreed(slice, before);
     let more = count - before;
     if count == 3 {
@@ -234,7 +234,7 @@ pub(crate) fn tell_on<K: TokenSink + Drop>(
         → SeesPast (K.has_seen sink) (K.has_seen told.sink) stack.depth (standing_of before) (track_of before slice.now).marks (track_of before slice.now).ends) }
     ensures turn { IfOk result (λ told. (after : Outcome) → outcome_at told.progress told.stack.reading ≡ Some after → AwaitsBehind (K.awaits told.sink) after) }
 {
-    reader_is_grammar();
+    reader_and_grammar();
     match progress {
         Progress::Front(before) => tell_front(stack, sink, before, slice, base),
         Progress::Going(state) => { tell_slice::<K, Brand>(stack, sink, state, slice, 0, base) }

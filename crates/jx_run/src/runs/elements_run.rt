@@ -6,7 +6,7 @@ ghost use Rattle.jx_run.specs.ElementsRun.{IsElementsRun, last_part, elements_sp
 ghost use Rattle.jx_run.specs.ElementVerdict.{IsJudgedElement};
 ghost use Rattle.jx_run.specs.SequenceRead.{StartsWithSeparator};
 
-use crate::laws::reader_is_grammar;
+use crate::laws::reader_and_grammar;
 use crate::runs::part_run::PartRun;
 use crate::runs::parted::Parted;
 use crate::sequences::element_verdict::{ElementVerdict, JudgedElement, all_moved};
@@ -61,12 +61,12 @@ impl ElementsRun {
         ensures elements { (bytes : List ℕ) → IsElementsRun bytes self → StartsWithSeparator bytes → by + length bytes < 2 ^ 64
             → IfOk result (λ es. AllZip (IsJudgedElement self.before.outcomes.depth) (elements by bytes) es.items) }
     {
-        reader_is_grammar();
+        reader_and_grammar();
         let elements = self.into_elements()?;
         Ok(all_moved(by, elements))
     }
 
-    /// The same run, whose bytes stand so much further on. It takes no memory.
+    /// The run with its bytes so much further on. It takes no memory.
     pub fn shifted(self, by: usize) -> ElementsRun
         requires of { (bytes : List ℕ) × IsElementsRun bytes self }
         requires fits { (elements_span self).end + by < 2 ^ 64 }
@@ -75,7 +75,7 @@ impl ElementsRun {
         ensures depth { result.before.outcomes.depth ≡ self.before.outcomes.depth }
         ensures of { (bytes : List ℕ) → IsElementsRun bytes self → IsElementsRun bytes result }
     {
-        reader_is_grammar();
+        reader_and_grammar();
         let Parted { before, marked } = self.parted;
         let before = before.shifted(by);
         match marked {

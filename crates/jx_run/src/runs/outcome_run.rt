@@ -16,7 +16,7 @@ ghost use Rattle.jx_run.specs.inside.Rest.{IsRestOf};
 ghost use Rattle.jx_run.specs.Verdict.{Judged};
 ghost use Rattle.jx_run.specs.Whole.{ends_text, verdict_from};
 
-use crate::laws::reader_is_grammar;
+use crate::laws::reader_and_grammar;
 use crate::runs::joins::{Joins, Pair};
 use crate::runs::reduce::all_transitions;
 use crate::runs::rest::rest_transitions;
@@ -24,7 +24,7 @@ use crate::runs::transition::{Transition, transitions_shifted};
 use crate::texts::verdict::{Refusal, Verdict};
 use jx_lex::{Depth, JoinFault, LexExit, LexState, Span};
 use jx_maps::ChunkMap;
-use jx_reduce::{EntryView, Expect, Structure, Whole, structures_lie_in_spans};
+use jx_reduce::{EntryView, Expect, Structure, Whole, spans_of_structures};
 use jx_summary::Summary;
 use std::alloc::{AllocError, Global};
 use std::marker::Model;
@@ -218,7 +218,7 @@ impl OutcomeRun {
     pub fn verdict(&self) -> Verdict
         ensures verdict { (bytes : List ℕ) → IsOutcomeRun bytes self.now → Judged self.now.start bytes self.now.depth result }
     {
-        reader_is_grammar();
+        reader_and_grammar();
         let transition = self.transition_from(LexState::Gap);
         let structure = self.structure(transition.structure);
         verdict_of(transition.exit, structure)
@@ -252,7 +252,7 @@ impl OutcomeRun {
         requires depth { self.now.depth ≡ right.now.depth }
         ensures verdict { (xs ys : List ℕ) → IsOutcomeRun xs self.now → IsOutcomeRun ys right.now → IfOk result (Judged self.now.start (xs ++ ys) self.now.depth) }
     {
-        reader_is_grammar();
+        reader_and_grammar();
         let (exit, pair) = self.onward(LexState::Gap, right);
         let structure = self.extended(pair, right)?;
         Ok(verdict_of(exit, &structure))
@@ -263,7 +263,7 @@ impl OutcomeRun {
         *self.transitions.allocator()
     }
 
-    /// The same run with its bytes standing so much further on. It takes no memory.
+    /// The run with its bytes so much further on. It takes no memory.
     pub fn shifted(self, by: usize) -> OutcomeRun
         requires fits { self.end + by < 2 ^ 64 }
         ensures start { result.start ≡ by + self.start }
@@ -271,7 +271,7 @@ impl OutcomeRun {
         ensures depth { result.depth ≡ self.depth }
         ensures of { (bytes : List ℕ) → IsOutcomeRun bytes self → IsOutcomeRun bytes result }
     {
-        structures_lie_in_spans();
+        spans_of_structures();
         OutcomeRun {
             depth: self.depth,
             span: Span {
@@ -283,7 +283,7 @@ impl OutcomeRun {
         }
     }
 
-    /// The same run with the structures to which its transitions lead, and no spare room. It fails only when out of
+    /// The run with the structures to which its transitions lead, and no spare room. It fails only when out of
     /// memory.
     pub fn trimmed(&self) -> Result<OutcomeRun, AllocError>
         ensures start { IfOk result (λ r. r.start ≡ self.now.start) }
@@ -400,7 +400,7 @@ impl OutcomeRun {
     {
         // Shows the proof what the right keeps.
         let _ = &right.depth;
-        structures_lie_in_spans();
+        spans_of_structures();
         let marks = self.structure(pair.left).copy()?;
         match pair.right {
             None => Ok(marks),
@@ -504,7 +504,7 @@ impl OutcomeRun {
         // Shows the proof what both runs keep.
         let _ = &self.depth;
         let _ = &right.depth;
-        structures_lie_in_spans();
+        spans_of_structures();
         let states = LexState::all();
         let mut joins = Joins::new(self.allocator());
         let mut transitions = Vec::with_capacity(self.allocator(), states.len())?;

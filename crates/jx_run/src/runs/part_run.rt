@@ -50,7 +50,7 @@ impl PartRun {
         }
     }
 
-    /// The same part, whose bytes stand so much further on. It takes no memory.
+    /// The part with its bytes so much further on. It takes no memory.
     pub(crate) fn shifted(self, by: usize) -> PartRun
         requires fits { self.outcomes.end + by < 2 ^ 64 }
         ensures start { result.outcomes.start ≡ by + self.outcomes.start }

@@ -13,7 +13,7 @@ ghost use Rattle.jx_run.specs.inside.Reduced.{path_at, AreInside, ArePaths, AreR
 use crate::runs::transition::Transition;
 use jx_lex::{Depth, LexState, Mark};
 use jx_maps::{ChunkMap, Path, Segment, TrackView};
-use jx_reduce::{Structure, structures_lie_in_spans};
+use jx_reduce::{Structure, spans_of_structures};
 use std::alloc::{AllocError, Global};
 
 /// Reduces the tokens of a segment, unless that was done before.
@@ -48,7 +48,7 @@ fn take_in(
     ensures depth { IfOk result (λ r. r.depth ≡ reduced.depth) }
     ensures reduced { IfOk result (λ r. (marks : List Mark) → IsReduced reduced.depth marks reduced → IsReduced reduced.depth (marks ++ segment.now.marks) r) }
 {
-    structures_lie_in_spans();
+    spans_of_structures();
     fill(alloc, segment, slot, reduced.depth())?;
     match slot {
         Some(slot) => {

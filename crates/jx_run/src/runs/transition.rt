@@ -12,7 +12,7 @@ pub struct Transition {
 }
 
 impl Transition {
-    /// The same transition over bytes that stand so much further on.
+    /// The transition over bytes so much further on.
     fn shifted(self, by: usize) -> Transition
         ensures { result ≡ moved_transition by self }
     {
@@ -27,7 +27,7 @@ impl Transition {
     }
 }
 
-/// The same transitions over bytes that stand so much further on.
+/// The transitions over bytes so much further on.
 pub(crate) fn transitions_shifted(by: usize, mut transitions: Vec<Transition>) -> Vec<Transition>
     ensures { result.items ≡ map (moved_transition by) transitions.items }
 {

@@ -29,7 +29,7 @@ pub struct JudgedElement {
     pub verdict: ElementVerdict,
 }
 
-/// The same refusal of bytes that stand so much further on.
+/// The refusal of bytes so much further on.
 fn moved_refusal(by: usize, refusal: Refusal) -> Refusal
     ensures { result ≡ moved_refusal by refusal }
 {
@@ -47,7 +47,7 @@ fn moved_refusal(by: usize, refusal: Refusal) -> Refusal
     }
 }
 
-/// The same verdict on bytes that stand so much further on.
+/// The verdict on bytes so much further on.
 fn moved_verdict(by: usize, verdict: ElementVerdict) -> ElementVerdict
     ensures { result ≡ moved_verdict by verdict }
 {
@@ -59,7 +59,7 @@ fn moved_verdict(by: usize, verdict: ElementVerdict) -> ElementVerdict
     }
 }
 
-/// The same element so many bytes further on.
+/// The element so many bytes further on.
 fn moved(by: usize, element: JudgedElement) -> JudgedElement
     ensures { result ≡ moved by element }
 {
@@ -73,7 +73,7 @@ fn moved(by: usize, element: JudgedElement) -> JudgedElement
     }
 }
 
-/// The same elements so many bytes further on.
+/// The elements so many bytes further on.
 pub(crate) fn all_moved(by: usize, mut elements: Vec<JudgedElement>) -> Vec<JudgedElement>
     ensures { result.items ≡ map (moved by) elements.items }
 {

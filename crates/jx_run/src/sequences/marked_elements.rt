@@ -8,7 +8,7 @@ ghost use Rattle.jx_run.specs.inside.Moved.{moved};
 ghost use Rattle.jx_run.specs.ElementVerdict.{IsJudgedElement};
 ghost use Rattle.jx_run.specs.declared.texts.settings.FrontMark.TheVariants.{Refused};
 
-use crate::laws::a_refused_mark_changes_nothing;
+use crate::laws::verdicts_with_a_refused_mark;
 use crate::readers::reader::Reader;
 use crate::runs::part_run::PartRun;
 use crate::runs::parted::Marked;
@@ -39,7 +39,7 @@ pub(crate) fn read_element(
     ensures settings { reader.new.settings ≡ reader.old.settings }
     ensures judged { IfOk result (IsJudgedElement reader.old.settings.depth (part start (slice_range text.now from to))) }
 {
-    a_refused_mark_changes_nothing();
+    verdicts_with_a_refused_mark();
     reader.reset(start);
     reader.feed_beginning(&text[from..], to - from)?;
     let end = start + (to - from);

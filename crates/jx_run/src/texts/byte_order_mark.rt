@@ -2,7 +2,7 @@
 ghost use Rattle.std.specs.Prelude.{◌≡◌, ◌+◌, ◌<◌, ◌≤◌, drop, length};
 ghost use Rattle.jx_run.specs.Front.{agreed, front_of, IsTold};
 
-use crate::laws::fronts_decide_where_texts_begin;
+use crate::laws::beginning_of_a_text_by_its_front;
 use crate::texts::settings::{Front, FrontMark};
 use crate::texts::verdict::Refusal;
 
@@ -51,6 +51,6 @@ pub fn front(text: &[u8], mark: FrontMark) -> Front
     ensures value { result ≡ front_of mark text.now }
     ensures verdict { IsTold mark text.now result }
 {
-    fronts_decide_where_texts_begin();
+    beginning_of_a_text_by_its_front();
     seen(text, mark)
 }

@@ -54,6 +54,6 @@ impl From<Depth> for Settings {
 pub enum Front {
     /// The text begins after so many bytes.
     Skip(usize),
-    /// The bytes in front are no byte order mark, and no text begins with them.
+    /// The bytes in front are no byte order mark, and do not begin a text.
     Refused(Refusal),
 }

@@ -2,7 +2,7 @@
 /// from 0; what stands of the text before it begins one within the depth.
 #[derive(Clone, Copy, Debug, PartialEq, Eq)]
 pub enum Refusal {
-    /// No text of any depth begins with these bytes up to and with the byte at this offset.
+    /// These bytes up to and with the byte at this offset do not begin a text of any depth.
     Stopped { at: usize },
     /// It ends too early: a text within the depth begins with all of its bytes, and they are not one.
     Truncated,

@@ -1,4 +1,4 @@
--- The lines of a document that are no texts.
+-- The lines of a document that are not valid JSON.
 use Rattle.std.specs.Prelude.{◌≡◌, ℕ, List}
 use Rattle.jx_ndjson.specs.Answers.{AreAnswers}
 use Rattle.jx_ndjson.specs.Tally.{bad_of}

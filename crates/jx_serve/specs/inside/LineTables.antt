@@ -8,11 +8,11 @@ use Rattle.jx_ndjson.specs.declared.judged_line.JudgedLine.{JudgedLine}
 use Rattle.jx_run.specs.declared.texts.settings.Settings.{Settings}
 use Rattle.jx_serve.specs.declared.line_table.LineTable.{LineTable}
 
--- the bytes are whole lines, and this is what they come to
+-- the bytes are whole lines, and these are their verdicts
 abbrev pub AreLinesOf : ℕ → List ℕ → WholeLinesValue → Type 0
 AreLinesOf limit bytes block = (answers : List JudgedLine) × AreWhole limit bytes answers block
 
--- the bytes are those of blocks, one behind another
+-- the bytes are those of blocks, one after another
 abbrev pub AreBlocks : ℕ → List ℕ → List WholeLinesValue → Type 0
 AreBlocks limit bytes [] = bytes ≡ []
 AreBlocks limit bytes (block ∷ blocks) = (xs : List ℕ) × (ys : List ℕ) × (bytes ≡ xs ++ ys) × AreLinesOf limit xs block × AreBlocks limit ys blocks
@@ -47,7 +47,7 @@ pub record IsBlockAt (limit : ℕ) (bytes : List ℕ) (from to : ℕ) (block : W
   pub within : from + block.len ≤ to
   pub are_lines : AreLinesOf limit (slice_range bytes from (from + block.len)) block
 
--- a reader has read these bytes, and the lines among them that are no texts are these
+-- a reader has read these bytes, and these are the lines among them that are not valid JSON
 pub record HasBad (settings : Settings) (input : List ℕ) (bad : List JudgedLine) (reader : LineReaderValue) : Type 0 where
   pub answers : List JudgedLine
   pub told : HasTold settings input answers reader

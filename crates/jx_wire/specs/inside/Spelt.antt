@@ -1,4 +1,4 @@
--- How values are spelt.
+-- How values are written.
 use Rattle.std.specs.Prelude.{◌≡◌, ℕ, List}
 use Rattle.jx_lex.specs.declared.kind.Kind.TheVariants.{String}
 use Rattle.jx_lex.specs.Token.{IsString}

@@ -1,4 +1,4 @@
--- The line of a verdict, those of what pointers come to, and the exit behind them.
+-- The line of a verdict, those of answers to pointers, and the status that follows.
 use Rattle.std.specs.Prelude.{ℕ, List, [], ◌∷◌, ◌++◌, codes}
 use Rattle.jx_run.specs.declared.texts.verdict.Verdict.{Verdict}
 use Rattle.jx_run.specs.declared.texts.verdict.Verdict.TheVariants.{Accepted, Refused}

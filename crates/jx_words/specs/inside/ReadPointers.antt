@@ -1,4 +1,4 @@
--- What strings that were read as pointers come to.
+-- Strings that were read as pointers.
 use Rattle.std.specs.Prelude.{◌≡◌, ℕ, List, [], ◌∷◌, Option, None, Some, Result, Ok, Err, ⊤}
 use Rattle.jx_index.specs.declared.find_fault.FindFault.{FindFault}
 use Rattle.jx_index.specs.declared.finder.Found.{Found}
@@ -8,7 +8,7 @@ use Rattle.jx_index.specs.Pointers.{IsPointer}
 use Rattle.jx_words.specs.declared.pointer_answer.PointerAnswer.{PointerAnswer}
 use Rattle.jx_words.specs.declared.pointer_answer.PointerAnswer.TheVariants as answer
 
--- the pointer that a string spells, or why it spells none
+-- the pointer that a string is, or why it is not one
 abbrev pub IsReadPointer : List ℕ → List ℕ → Option PointerFault → Type 0
 IsReadPointer spelt pointer None = IsPointer spelt × (pointer ≡ spelt)
 IsReadPointer spelt pointer (Some fault) = IsFaultOf spelt fault

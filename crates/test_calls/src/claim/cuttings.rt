@@ -1,14 +1,14 @@
-// Which pieces a text is cut into, and which cuts are refused.
+// Which chunks a text is cut into, and which cuts are refused.
 
 use jx_claim::{CutFault, Cutting};
 use jx_crew::{PieceNo, Workers};
 use std::alloc::Global;
 use test_words::{Line, LineFault, Out, Ways, push_span};
 
-/// At most how many pieces a line lists.
+/// At most how many chunks a line lists.
 const LISTED: u32 = 100;
 
-/// Where the pieces begin and end together, how many they are, and if they are few, all of them.
+/// Where the chunks begin and end together, how many they are, and if they are few, all of them.
 fn pieces_of(alloc: Global, cutting: &Cutting) -> Out {
     let mut told = Out::new(alloc);
     let (front, len, count) = (cutting.front(), cutting.len(), cutting.count());
@@ -22,7 +22,7 @@ fn pieces_of(alloc: Global, cutting: &Cutting) -> Out {
     told
 }
 
-/// The cutting without the first so many bytes, for each word that is left.
+/// The division without the first so many bytes, for each word that is left.
 fn behind(line: &mut Line<'_>, cutting: Cutting) -> Cutting {
     let mut cutting = cutting;
     for _ in 0..line.count() {
@@ -36,7 +36,7 @@ fn behind(line: &mut Line<'_>, cutting: Cutting) -> Cutting {
     cutting
 }
 
-/// The pieces of a cutting and of its copy.
+/// The chunks of a division and of its copy.
 fn push_pieces(line: &mut Line<'_>, cutting: &Cutting) {
     let mut ways = Ways::new(line.alloc);
     ways.add("itself", pieces_of(line.alloc, cutting));
@@ -47,7 +47,7 @@ fn push_pieces(line: &mut Line<'_>, cutting: &Cutting) {
     ways.push_to(&mut line.out);
 }
 
-/// The pieces, or why there are none.
+/// The chunks, or why there are none.
 fn push_cutting(line: &mut Line<'_>, cutting: Result<Cutting, CutFault>) {
     match cutting {
         Ok(cutting) => {
@@ -59,7 +59,7 @@ fn push_cutting(line: &mut Line<'_>, cutting: Result<Cutting, CutFault>) {
     }
 }
 
-/// `every LEN SIZE [FRONT]..`: pieces of so many bytes, without the first so many bytes, one front after another.
+/// `every LEN SIZE [FRONT]..`: chunks of so many bytes, without the first so many bytes, one front after another.
 pub(crate) fn every(line: &mut Line<'_>) {
     let len = line.number();
     let size = line.number();
@@ -69,7 +69,7 @@ pub(crate) fn every(line: &mut Line<'_>) {
     push_cutting(line, Cutting::every(len, size));
 }
 
-/// `at LEN CUTS [FRONT]..`: pieces that meet at the cuts.
+/// `at LEN CUTS [FRONT]..`: chunks that meet at the cuts.
 pub(crate) fn at(line: &mut Line<'_>) {
     let len = line.number();
     let cuts = line.numbers();

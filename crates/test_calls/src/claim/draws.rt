@@ -1,4 +1,4 @@
-// In which order pieces are drawn, and what closing tells.
+// The order in which chunks are taken, and what closing returns.
 ghost use Rattle.jx_claim.specs.Claimed.{AllSeats};
 
 use jx_claim::{ClaimSeat, Claims};
@@ -6,14 +6,14 @@ use jx_crew::Workers;
 use std::alloc::{AllocError, Global};
 use test_words::{Line, Out};
 
-/// How many pieces there are, and how many workers.
+/// How many chunks there are, and how many workers.
 fn terms(line: &mut Line<'_>) -> Option<(u32, Workers)> {
     let pieces = u32::try_from(line.number()).ok()?;
     let workers = u8::try_from(line.number()).ok()?;
     Some((pieces, Workers::new(workers)?))
 }
 
-/// What the seats of these letters draw, one after another; one that got nothing, or is not there, is passed over.
+/// What the worker handles of these letters get, one after another; one that got nothing, or does not exist, is left out.
 fn push_draws(out: &mut Out, claims: &Claims, seats: &mut Vec<ClaimSeat>, letters: &[u8])
     requires { AllSeats claims.now seats.old.items }
     ensures { AllSeats claims.now seats.new.items }
@@ -43,7 +43,7 @@ fn push_drawn(
     Ok(())
 }
 
-/// `draws PIECES WORKERS SEATS`: what seats draw, by their letters `A`, `B` and so on, and how many pieces closing tells.
+/// `draws PIECES WORKERS SEATS`: what worker handles get, by their letters `A`, `B` and so on, and how many chunks closing returns.
 pub(crate) fn draws(line: &mut Line<'_>) {
     let Some((pieces, workers)) = terms(line) else {
         return line.refuse();
@@ -53,7 +53,7 @@ pub(crate) fn draws(line: &mut Line<'_>) {
     line.settle(told);
 }
 
-/// `seats PIECES WORKERS`: the numbers of fresh seats.
+/// `seats PIECES WORKERS`: the numbers of fresh worker handles.
 pub(crate) fn seats(line: &mut Line<'_>) {
     let Some((pieces, workers)) = terms(line) else {
         return line.refuse();

@@ -12,7 +12,7 @@ const FAR: usize = 1 << 40;
 /// Up to which size slices are fed, so that a shorter text is cut everywhere.
 const LONGEST: usize = 200;
 
-/// What the pointers that these words spell lead to in a text that is fed by slices of so many bytes. A refused text has no answers.
+/// What the pointers in these words lead to in a text that is fed by slices of so many bytes. A refused text has no answers.
 fn fed(
     alloc: Global,
     text: &[u8],
@@ -33,7 +33,7 @@ fn fed(
     }
 }
 
-/// Whether the pointers that these words spell lead to what is wanted in a text that is fed by slices, of whatever size.
+/// Whether the pointers in these words lead to what is wanted in a text that is fed by slices, of whatever size.
 pub(crate) fn is_fed_alike(
     alloc: Global,
     text: &[u8],

@@ -6,7 +6,7 @@ use jx_lex::Kind;
 use jx_run::NameRule;
 use test_words::{Line, Out, text_of};
 
-/// The number of a node, behind a comma unless it is the first.
+/// The number of a node, after a comma unless it is the first.
 fn push_node(out: &mut Out, node: NodeId) {
     out.part(",");
     out.put(node.number());
@@ -32,7 +32,7 @@ fn push_children(line: &mut Line<'_>, index: &Indexed<'_>) {
     }
 }
 
-/// The node to which the pointer leads that the next word spells.
+/// The node to which the pointer leads in the next word.
 fn node(line: &mut Line<'_>, index: &Indexed<'_>) -> Option<NodeId> {
     let spelt = text_of(line.alloc, line.word()).ok()?;
     let pointer = Pointer::read(spelt.as_str()).ok()?;

@@ -1,7 +1,7 @@
 // Readings that pause.
 use jx_run::Pace;
 
-/// Pauses behind each byte.
+/// Pauses after each byte.
 #[derive(Clone, Copy)]
 pub(crate) struct EachByte;
 

@@ -45,7 +45,7 @@ const DIFFER: &str = "the index and one pass differ";
 /// What is answered where one pass over a text and a finder that is fed it by slices do not agree.
 const FED_ELSEWHERE: &str = "slices differ";
 
-/// The pointers that these words spell, without words that are none.
+/// The pointers in these words, without words that are not pointers.
 pub(crate) fn pointers_of(alloc: Global, words: &[String]) -> Result<Vec<Pointer<'_>>, AllocError> {
     let mut pointers = Vec::with_capacity(alloc, words.len())?;
     for word in words {
@@ -88,7 +88,7 @@ fn push_in_index(out: &mut Out, index: &Indexed<'_>, pointer: &Pointer<'_>, want
     }
 }
 
-/// What a pointer leads to in an index, if one pass over the text for it alone comes to this too.
+/// What a pointer leads to in an index, if one pass over the text for it alone gives this too.
 fn push_agreed(
     out: &mut Out,
     alloc: Global,

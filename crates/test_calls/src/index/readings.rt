@@ -92,7 +92,7 @@ fn span(line: &mut Line<'_>, len: usize) -> Span
     line.span(len)
 }
 
-/// `rows DEPTH TEXT [S..E]`: the verdict and all rows, in one pass, with a pause behind each byte, and by runs.
+/// `rows DEPTH TEXT [S..E]`: the verdict and all rows, in one pass, with a pause after each byte, and by runs.
 pub(crate) fn rows(line: &mut Line<'_>) {
     let depth = line.depth();
     let text = line.text();

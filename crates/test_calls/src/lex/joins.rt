@@ -5,7 +5,7 @@ use jx_maps::ChunkMap;
 use std::alloc::{AllocError, Global};
 use test_words::{Line, Out};
 
-/// The map of both sides of a cut, and how many marks the left one and the right one held.
+/// The map of both sides of a cut, and how many token starts the left one and the right one held.
 #[derive(Drop)]
 pub(crate) struct Joined {
     pub(crate) map: ChunkMap,
@@ -35,7 +35,7 @@ pub(crate) fn joined_at(
     })
 }
 
-/// `kept TEXT S..C..E LEAST`: how many marks the join keeps of the right, which has to hold at least so many.
+/// `kept TEXT S..C..E LEAST`: how many token starts the join keeps of the right, which has to hold at least so many.
 pub(crate) fn kept(line: &mut Line<'_>) {
     let text = line.text();
     let meeting = line.meeting(text.len());

@@ -1,4 +1,4 @@
-// Chunk maps: what they show from a state, and how many marks they hold.
+// Chunk maps: what they show from a state, and how many token starts they hold.
 ghost use Rattle.std.specs.Prelude.{◌≤◌, length};
 
 use crate::lex::joins::{Joined, joined_at};
@@ -97,7 +97,7 @@ fn push_excess(out: &mut Out, joined: &Joined, start: usize, end: usize) {
     }
 }
 
-/// `shown TEXT S..E MOST`: how many marks all views show, of a map that holds at most so many.
+/// `shown TEXT S..E MOST`: how many token starts all views show, of a map that holds at most so many.
 pub(crate) fn shown(line: &mut Line<'_>) {
     let text = line.text();
     let span = line.span(text.len());
@@ -127,7 +127,7 @@ fn push_shown(
     Ok(())
 }
 
-/// How many marks the views from all states show together.
+/// How many token starts the views from all states show together.
 fn shown_by(alloc: Global, map: &ChunkMap) -> Result<usize, AllocError> {
     let mut shown = 0usize;
     for state in &LexState::all() {

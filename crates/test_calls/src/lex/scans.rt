@@ -1,4 +1,4 @@
-// Scans into sinks, one of which wants no more after some marks.
+// Scans into sinks, one of which wants no more after some token starts.
 ghost use Rattle.std.specs.Prelude.{◌≡◌, length, min};
 
 use crate::lex::track::{push_exit, push_track};
@@ -6,7 +6,7 @@ use jx_lex::{LexState, Mark, TokenSink, Tokens};
 use std::alloc::{AllocError, Global};
 use test_words::{Line, Out};
 
-/// Counts marks up to a limit, and wants no more then.
+/// Counts token starts up to a limit, and wants no more then.
 #[derive(Drop)]
 struct FirstMarks {
     limit: usize,
@@ -34,7 +34,7 @@ impl TokenSink for FirstMarks {
     }
 }
 
-/// `scan STATE TEXT`, or `scan STATE TEXT LIMIT` into a sink that wants no more marks than so many.
+/// `scan STATE TEXT`, or `scan STATE TEXT LIMIT` into a sink that wants no more token starts than so many.
 pub(crate) fn scan(line: &mut Line<'_>) {
     let state = line.state();
     let text = line.text();
@@ -47,7 +47,7 @@ pub(crate) fn scan(line: &mut Line<'_>) {
     line.settle(told);
 }
 
-/// All marks and ends, and the exit.
+/// All token starts and ends, and the exit.
 fn push_tokens(
     out: &mut Out,
     alloc: Global,
@@ -62,7 +62,7 @@ fn push_tokens(
     Ok(())
 }
 
-/// How many marks were kept, and the exit, if more were wanted.
+/// How many token starts were kept, and the exit, if more were wanted.
 fn push_first(out: &mut Out, state: LexState, text: &[u8], limit: usize) -> Result<(), AllocError> {
     let mut first = FirstMarks { limit, count: 0 };
     let exit = jx_lex::scan(&mut first, state, text, 0, text.len())?;

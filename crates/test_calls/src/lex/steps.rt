@@ -4,7 +4,7 @@ use jx_lex::class_of;
 use std::fmt::Debug;
 use test_words::{Line, Out};
 
-/// The only byte that the next word spells.
+/// The only byte in the next word.
 fn byte(line: &mut Line<'_>) -> u8 {
     match line.text().as_slice() {
         [byte] => *byte,
@@ -29,7 +29,7 @@ fn push_part<T: Debug>(out: &mut Out, name: &str, part: &Option<T>) {
     }
 }
 
-/// `step STATE BYTE`: where a token ends, which mark begins, and the next state.
+/// `step STATE BYTE`: where a token ends, which token start begins, and the next state.
 pub(crate) fn step(line: &mut Line<'_>) {
     let state = line.state();
     let step = jx_lex::step(state, byte(line));

@@ -1,10 +1,10 @@
-// What reading from one state gives: marks, ends and an exit.
+// What reading from one state gives: token starts, ends and an exit.
 use jx_lex::{LexExit, LexState, Mark, TokenEnd, step};
 use jx_maps::TrackView;
 use std::alloc::{AllocError, Global};
 use test_words::{Out, push_numbers};
 
-/// The marks of a track, its ends and its exit.
+/// The token starts of a track, its ends and its exit.
 #[derive(Drop, PartialEq)]
 pub(crate) struct Track {
     pub(crate) marks: Vec<Mark>,
@@ -71,7 +71,7 @@ impl Track {
     }
 }
 
-/// The same of marks, ends and an exit.
+/// The same of token starts, ends and an exit.
 pub(crate) fn push_track(out: &mut Out, marks: &[Mark], ends: &[usize], exit: LexExit) {
     push_marks(out, marks);
     out.push_str("; ends ");
@@ -88,7 +88,7 @@ fn ends_of(alloc: Global, view: &TrackView<'_>) -> Result<Vec<usize>, AllocError
     Ok(ends)
 }
 
-/// `Number@7 CloseArray@8`, or `-` for no marks.
+/// `Number@7 CloseArray@8`, or `-` for no token starts.
 fn push_marks(out: &mut Out, marks: &[Mark]) {
     out.list(" ", marks, |out, mark| {
         let (kind, at) = (mark.kind, mark.at);

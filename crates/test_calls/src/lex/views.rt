@@ -8,7 +8,7 @@ use jx_maps::ChunkMap;
 use std::alloc::{AllocError, Global};
 use test_words::{Line, LineFault, push_span};
 
-/// Whether the segments on the view's path have these marks.
+/// Whether the segments on the view's path have these token starts.
 fn goes_along(map: &ChunkMap, state: LexState, marks: &[Mark]) -> bool {
     let view = map.entry(state);
     let mut rest = marks;
@@ -44,7 +44,7 @@ fn is_by_steps(
     Ok(seen == plain && goes_along(map, state, &plain.marks))
 }
 
-/// Tells whether all views are as steps give, and else from which state the first is not.
+/// Writes whether all views are as steps give, and else from which state the first is not.
 fn push_odd(line: &mut Line<'_>, odd: Result<Option<LexState>, AllocError>) {
     match odd {
         Ok(None) => line.out.push_str("as by steps"),
@@ -102,7 +102,7 @@ fn odd_in_part(alloc: Global, text: &[u8], span: Span) -> Result<Option<LexState
     odd_state(alloc, &map, &text[span.start..span.end])
 }
 
-/// So many copies of a unit, and a text behind them.
+/// So many copies of a unit, and a text after them.
 fn grown_to(alloc: Global, unit: &[u8], count: usize, end: &[u8]) -> Result<Vec<u8>, AllocError> {
     let mut text = Vec::new(alloc);
     for _ in 0..count {
@@ -126,7 +126,7 @@ fn odd_behind(
     Ok(odd)
 }
 
-/// `grown UNIT S..E TEXT`: the views of a text behind each number of copies of a unit, from S on and below E.
+/// `grown UNIT S..E TEXT`: the views of a text after each number of copies of a unit, from S on and below E.
 pub(crate) fn grown(line: &mut Line<'_>) {
     let unit = line.text();
     let counts = line.span(usize::MAX);

@@ -1,4 +1,4 @@
-// What the entries of a structure show, and what they come to over open containers.
+// The entries of a structure, and where they lead over open containers.
 ghost use Rattle.std.specs.Prelude.{◌≤◌, ◌<◌, ◌^◌, IfSome};
 ghost use Rattle.jx_reduce.specs.Offsets.{EachIn, RisingFrom};
 
@@ -10,7 +10,7 @@ use jx_reduce::{Holder, Level, Reduced, Reductions};
 use std::alloc::{AllocError, Global};
 use test_words::{Line, Maker, Out, push_numbers, structure_of};
 
-/// Where a list of so many marks is cut, if there is a word more.
+/// Where a list of so many token starts is cut, if there is a word more.
 fn cut(line: &mut Line<'_>, count: usize) -> Option<usize>
     ensures { IfSome result (λ cut. cut ≤ count) }
 {
@@ -25,7 +25,7 @@ fn cut(line: &mut Line<'_>, count: usize) -> Option<usize>
     Some(cut)
 }
 
-/// The structure of the marks that the next word spells, of two parts that are joined if a word more cuts them.
+/// The structure of the token starts in the next word, of two parts that are joined if a word more cuts them.
 fn structure(line: &mut Line<'_>, depth: Depth) -> Option<Reductions> {
     let marks = marks(line);
     let made = match cut(line, marks.len()) {
@@ -83,7 +83,7 @@ fn push_entry(out: &mut Out, entry: &Reduced) {
     push_whole(out, entry.whole());
 }
 
-/// What the entry comes to over these open containers, if there are no more than its depth.
+/// Writes where the entry leads over these open containers, if there are no more than its depth.
 fn push_act(line: &mut Line<'_>, entry: &Reduced, holders: &[Holder]) {
     if holders.len() > entry.depth().containers() as usize {
         return line.refuse();
@@ -103,7 +103,7 @@ pub(crate) fn act(line: &mut Line<'_>) {
     }
 }
 
-/// The structure of the marks so many bytes further on.
+/// The structure of the token starts so many bytes further on.
 fn further_on(
     alloc: Global,
     marks: &[Mark],
@@ -118,7 +118,7 @@ fn further_on(
     Ok(near.shifted(by))
 }
 
-/// `further BY DEPTH EXPECT HOLDERS MARKS`: `act` of the same marks so many bytes further on, and the heights.
+/// `further BY DEPTH EXPECT HOLDERS MARKS`: `act` of the same token starts so many bytes further on, and the heights.
 pub(crate) fn further(line: &mut Line<'_>) {
     let by = line.number();
     let depth = line.depth();

@@ -1,4 +1,4 @@
-// Structures of both parts of lists of marks, joined.
+// Structures of both parts of lists of token starts, joined.
 ghost use Rattle.std.specs.Prelude.{◌≡◌, ◌≤◌, IfOk, length};
 ghost use Rattle.jx_reduce.specs.Offsets.{RisingFrom};
 
@@ -24,7 +24,7 @@ pub(crate) fn joined_at(
     left.join(right).ok().ok_or(AllocError)
 }
 
-/// Tells where joins of structures that are made so answer otherwise than the table, from each expectation and over each list of at
+/// Writes where joins of structures that are made so answer otherwise than the table, from each expectation and over each list of at
 /// most three containers.
 fn push_odd_cuts(
     out: &mut Out,

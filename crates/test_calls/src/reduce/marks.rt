@@ -1,4 +1,4 @@
-// Lists of marks, as words spell them.
+// Lists of token starts, as words have them.
 ghost use Rattle.std.specs.Prelude.{◌≤◌, ◌<◌, ◌^◌, IfOk, IfSome};
 ghost use Rattle.jx_reduce.specs.Offsets.{EachIn, RisingFrom};
 
@@ -6,7 +6,7 @@ use jx_lex::Mark;
 use std::alloc::Global;
 use test_words::{Line, LineFault, kind_of};
 
-/// The offset that these digits spell, below 2^32.
+/// The offset in these digits, below 2^32.
 fn offset_of(digits: &[u8]) -> Option<usize>
     ensures { IfSome result (λ at. at < 2 ^ 32) }
 {
@@ -15,7 +15,7 @@ fn offset_of(digits: &[u8]) -> Option<usize>
     Some(at as usize)
 }
 
-/// The mark of a letter and an offset below 2^32.
+/// The token start of a letter and an offset below 2^32.
 fn mark_of(spelt: &str) -> Option<Mark>
     ensures { IfSome result (λ mark. mark.at < 2 ^ 32) }
 {
@@ -25,7 +25,7 @@ fn mark_of(spelt: &str) -> Option<Mark>
     Some(Mark { kind, at })
 }
 
-/// The marks that the next word spells. Their offsets rise, and are below 2^32.
+/// The token starts in the next word. Their offsets rise, and are below 2^32.
 pub(crate) fn marks(line: &mut Line<'_>) -> Vec<Mark>
     ensures rising { RisingFrom 0 result.items }
     ensures low { EachIn (λ m. (0 ≤ m.at) × (m.at < 2 ^ 32)) result.items }

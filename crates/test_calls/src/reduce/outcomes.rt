@@ -1,4 +1,4 @@
-// What readings of marks come to, in words.
+// The outcomes of token starts, in words.
 use jx_reduce::{Expect, Holder, Outcome, Whole};
 use test_words::Out;
 

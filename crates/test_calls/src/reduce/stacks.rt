@@ -1,4 +1,4 @@
-// Known stacks over lists of marks.
+// Known stacks over lists of token starts.
 use crate::reduce::marks::marks;
 use crate::reduce::outcomes::push_whole;
 use jx_lex::{Depth, Mark};
@@ -6,7 +6,7 @@ use jx_reduce::KnownStack;
 use std::alloc::{AllocError, Global};
 use test_words::{Line, Out, Ways};
 
-/// What a stack has come to, and whether that is a fault.
+/// Where a stack is, and whether that is a fault.
 fn told_by(alloc: Global, stack: &KnownStack) -> Out {
     let mut told = Out::new(alloc);
     push_whole(&mut told, stack.whole());
@@ -16,14 +16,14 @@ fn told_by(alloc: Global, stack: &KnownStack) -> Out {
     told
 }
 
-/// What a stack of its own comes to that is given the marks at once.
+/// The outcome of a stack of its own that is given the token starts at once.
 fn at_once(alloc: Global, marks: &[Mark], depth: Depth) -> Result<Out, AllocError> {
     let mut stack = KnownStack::new(alloc, depth);
     stack.extend(marks)?;
     Ok(told_by(alloc, &stack))
 }
 
-/// What the stack comes to that is given the marks by slices of seven.
+/// The outcome of the stack that is given the token starts by slices of seven.
 fn by_slices(alloc: Global, stack: &mut KnownStack, marks: &[Mark]) -> Result<Out, AllocError> {
     stack.reset();
     for slice in marks.chunks(7) {
@@ -32,7 +32,7 @@ fn by_slices(alloc: Global, stack: &mut KnownStack, marks: &[Mark]) -> Result<Ou
     Ok(told_by(alloc, stack))
 }
 
-/// What the stack comes to that is given the marks one by one.
+/// The outcome of the stack that is given the token starts one by one.
 fn one_by_one(alloc: Global, stack: &mut KnownStack, marks: &[Mark]) -> Result<Out, AllocError> {
     stack.reset();
     for mark in marks {
@@ -41,7 +41,7 @@ fn one_by_one(alloc: Global, stack: &mut KnownStack, marks: &[Mark]) -> Result<O
     Ok(told_by(alloc, stack))
 }
 
-/// Writes what the next list comes to.
+/// Writes the outcome of the next list.
 fn push_next(line: &mut Line<'_>, stack: &mut KnownStack) {
     line.out.part("; ");
     let marks = marks(line);
@@ -53,7 +53,7 @@ fn push_next(line: &mut Line<'_>, stack: &mut KnownStack) {
     ways.push_to(&mut line.out);
 }
 
-/// `stack DEPTH MARKS..`: what each list comes to, where one stack serves one list after another.
+/// `stack DEPTH MARKS..`: the outcome of each list, where one stack serves one list after another.
 pub(crate) fn stack(line: &mut Line<'_>) {
     let mut stack = KnownStack::new(line.alloc, line.depth());
     for _ in 0..line.count() {

@@ -62,7 +62,7 @@ fn add_cuts_up_to(ways: &mut Ways, alloc: Global, text: &[u8], second: usize, de
     }
 }
 
-/// `behind DEPTH TEXT TEXT`: the second text was read as a sequence of its own, and stands behind the first.
+/// `behind DEPTH TEXT TEXT`: the second text was read as a sequence of its own, and follows the first.
 pub(crate) fn behind(line: &mut Line<'_>) {
     let depth = line.depth();
     let left = line.text();

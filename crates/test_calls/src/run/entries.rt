@@ -1,4 +1,4 @@
-// What the entries and exits of runs come to.
+// Where the entries of runs lead, and their exits.
 ghost use Rattle.std.specs.Prelude.{◌<◌, ◌+◌, ◌^◌, length};
 
 use crate::lex::track::{push_exit, push_track};
@@ -19,7 +19,7 @@ struct Asked {
 }
 
 impl Asked {
-    /// The exit, how many levels the entry has, and what it comes to over the open containers, of which there are no more than its
+    /// The exit, how many levels the entry has, and where it leads over the open containers, of which there are no more than its
     /// depth.
     fn told_of(&self, alloc: Global, exit: LexExit, entry: &Reduced) -> Result<Out, AllocError> {
         let mut told = Out::new(alloc);
@@ -32,21 +32,21 @@ impl Asked {
     }
 }
 
-/// What a run that keeps its marks tells.
+/// The answer of a run that keeps its token starts.
 fn by_marks(alloc: Global, text: &[u8], depth: Depth, asked: &Asked) -> Result<Out, AllocError> {
     let run = from_left::<TextRun>(alloc, text, depth)?;
     let entry = run.entry(asked.state, asked.expect).reduced()?;
     asked.told_of(alloc, run.exit(asked.state), &entry)
 }
 
-/// What a run of outcomes tells.
+/// The answer of a run of outcomes.
 fn by_outcomes(alloc: Global, text: &[u8], depth: Depth, asked: &Asked) -> Result<Out, AllocError> {
     let run = from_left::<OutcomeRun>(alloc, text, depth)?;
     let entry = run.entry(asked.state, asked.expect).reduced()?;
     asked.told_of(alloc, run.exit(asked.state), &entry)
 }
 
-/// `run DEPTH STATE EXPECT HOLDERS TEXT`: what runs of both kinds, of single bytes joined from the left, tell of one entry.
+/// `run DEPTH STATE EXPECT HOLDERS TEXT`: what runs of both kinds, of single bytes joined from the left, answer of one entry.
 pub(crate) fn run(line: &mut Line<'_>) {
     let depth = line.depth();
     let asked = Asked {
@@ -65,7 +65,7 @@ pub(crate) fn run(line: &mut Line<'_>) {
     ways.push_to(&mut line.out);
 }
 
-/// `started DEPTH TEXT`: the run of the text, started: verdict, span, depth, marks and ends.
+/// `started DEPTH TEXT`: the run of the text, started: verdict, span, depth, token starts and ends.
 pub(crate) fn started(line: &mut Line<'_>) {
     let depth = line.depth();
     let text = line.text();

@@ -3,8 +3,8 @@ use jx_run::{Front, OutcomeRun, Settings, Summary, Verdict, front};
 use std::alloc::{AllocError, Global};
 use test_words::{Line, Out, push_verdict};
 
-/// `front DEPTH SETTINGS TEXT`: how many bytes stand in front of the text and the verdict on what stands behind them, or why
-/// there is no text.
+/// `front DEPTH SETTINGS TEXT`: how many bytes stand in front of the text and the verdict on what follows them, or why
+/// they are not valid JSON.
 pub(crate) fn fronted(line: &mut Line<'_>) {
     let depth = line.depth();
     let settings = line.settings(depth);

@@ -5,7 +5,7 @@ use jx_run::{SeqRun, Shape, Summary, Verdict};
 use std::alloc::{AllocError, Global};
 use test_words::{Line, Out, Ways, push_span, push_verdict};
 
-/// An element that has bytes: its span, and the verdict on it where a record separator stands before it.
+/// An element that has bytes: its span, and the verdict on it where a record separator is before it.
 fn push_part(out: &mut Out, span: Span, verdict: Option<Verdict>) {
     if span.start >= span.end {
         return;

@@ -32,7 +32,7 @@ pub(crate) fn add_fed(ways: &mut Ways, alloc: Global, text: &[u8], depth: Depth)
     }
 }
 
-/// Feeds a text from its start by slices of so many bytes, and tells the verdict.
+/// Feeds a text from its start by slices of so many bytes, and returns the verdict.
 fn fed_from_start(
     alloc: Global,
     reader: &mut Reader,
@@ -51,7 +51,7 @@ fn fed_from_start(
 }
 
 /// `reader DEPTH SIZE [START TEXT]..`: one reader that begins at START, or goes on where it is `-`, and is fed TEXT by slices of
-/// so many bytes: the verdict and the end behind each text.
+/// so many bytes: the verdict and the end after each text.
 pub(crate) fn reader(line: &mut Line<'_>) {
     let settings = Settings::from(line.depth());
     let size = line.number();
@@ -61,7 +61,7 @@ pub(crate) fn reader(line: &mut Line<'_>) {
     }
 }
 
-/// Begins at the offset of the next word, or goes on where it is `-`, feeds the text of the one behind it, and tells the verdict
+/// Begins at the offset of the next word, or goes on where it is `-`, feeds the text of the one after it, and writes the verdict
 /// and the end.
 fn read_next(line: &mut Line<'_>, reader: &mut Reader, size: usize) {
     let start = line.word();
@@ -93,7 +93,7 @@ fn feed(reader: &mut Reader, text: &[u8]) -> Result<(), AllocError> {
     Ok(())
 }
 
-/// `slices DEPTH SETTINGS TEXT..`: one reader that is fed the texts, each as one slice: what it has read behind each.
+/// `slices DEPTH SETTINGS TEXT..`: one reader that is fed the texts, each as one slice: what it has read after each.
 pub(crate) fn slices(line: &mut Line<'_>) {
     let depth = line.depth();
     let settings = line.settings(depth);
@@ -132,7 +132,7 @@ fn told_of(alloc: Global, reader: &Reader) -> Out {
 }
 
 /// `follows DEPTH SETTINGS TEXT TEXT..`: a reader that is fed the first text and follows the run of each other one, unless a byte
-/// order mark may stand in it, and a reader that is fed all: what they have read behind each.
+/// order mark may stand in it, and a reader that is fed all: what they have read after each.
 pub(crate) fn follows(line: &mut Line<'_>) {
     let depth = line.depth();
     let settings = line.settings(depth);

@@ -1,4 +1,4 @@
-// The verdicts on texts, by runs that keep their marks and by runs of outcomes alone.
+// The verdicts on texts, by runs that keep their token starts and by runs of outcomes alone.
 ghost use Rattle.std.specs.Prelude.{◌≤◌};
 
 use crate::run::joins::{by_halves, cut_at, from_left, from_right};

@@ -6,7 +6,7 @@ use jx_run::{ElementVerdict, JudgedElement, NameRule, Refusal, Verdict};
 use test_memory_of_runs::inputs::{Worked, WorkedRow};
 use test_memory_of_runs::rows::are_rows;
 
-/// What an element comes to: its rows, or why it has none.
+/// The answer on an element: its rows, or why it has none.
 #[derive(Clone, Copy)]
 pub enum Told {
     Accepted(&'static [WorkedRow]),

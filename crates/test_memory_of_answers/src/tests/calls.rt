@@ -28,9 +28,9 @@ pub enum TextCall {
     Plain,
     /// `index_text_with`, by which one worker reads the text in one pass.
     Index,
-    /// `verdict_of_text`, by which one worker reads the text piece by piece, and several put the run of each into a book.
+    /// `verdict_of_text`, by which one worker reads the text chunk by chunk, and several put the run of each into an accumulator.
     Verdict,
-    /// `read_whole`, by which one worker puts the run of each piece into a book, and `Indexed::of_run`.
+    /// `read_whole`, by which one worker puts the run of each chunk into an accumulator, and `Indexed::of_run`.
     Run,
 }
 
@@ -66,7 +66,7 @@ pub const ALL_SEQUENCE_CALLS: [SequenceCall; 3] = [
     SequenceCall::Judge,
 ];
 
-/// Pointers into an index of a text, and what they come to.
+/// Pointers into an index of a text, and the answers to them.
 #[derive(Clone, Copy)]
 pub struct LookUps<'a> {
     pub text: &'a [u8],
@@ -131,17 +131,17 @@ pub fn crew_of<'c, R: Abort>(rt: &'c R, alloc: Global, count: u8) -> Crew<'c, R,
     }
 }
 
-/// The pointer that is spelt so.
+/// The pointer of these characters.
 pub fn pointer_of<'p, R: Abort>(rt: &R, spelt: &'p str) -> Pointer<'p> {
     Pointer::read(spelt).expect(rt, "a pointer")
 }
 
-// The only fault is want of memory.
+// The only fault is out of memory.
 fn or_memory<T: Drop>(answer: Result<T, Fault>) -> Result<T, AllocError> {
     answer.ok().ok_or(AllocError)
 }
 
-/// Pieces of a byte.
+/// Chunks of a byte.
 fn bytes_of(text: &[u8]) -> Result<Cutting, AllocError>
     ensures len { IfOk result (λ cutting. cutting.len ≡ length text.now) }
     ensures front { IfOk result (λ cutting. cutting.front ≡ 0) }
@@ -164,7 +164,7 @@ pub fn answer_of<'a>(
     }
 }
 
-// The run over a text behind so many bytes.
+// The run over a text after so many bytes.
 fn run_behind<'a, R: Threads + Wait + Sync, G: Gate + Sync>(
     crew: &Crew<'_, R, G>,
     text: &'a [u8],
@@ -180,8 +180,8 @@ fn run_behind<'a, R: Threads + Wait + Sync, G: Gate + Sync>(
     read_whole::<TextRun, R, G>(crew, text, &rest, depth)
 }
 
-/// The answer on a text by its run, which a crew makes piece by piece and joins in a book. So does one worker, on the calling thread,
-/// where the cutting has two pieces or more behind the mark.
+/// The answer on a text by its run, which a crew makes chunk by chunk and joins in an accumulator. So does one worker, on the calling thread,
+/// where the division has two chunks or more after the byte order mark.
 pub fn answer_by_run<'a, R: Threads + Wait + Sync, G: Gate + Sync>(
     crew: &Crew<'_, R, G>,
     text: &'a [u8],
@@ -229,7 +229,7 @@ fn indexed_within<'a, R: Threads + Wait + Sync, G: Gate + Sync>(
     or_memory(index_text(rt, alloc, text, cutting, workers, depth, gate))
 }
 
-/// The index of a text by one worker, asked for twice where memory is refused.
+/// The index of a text by one worker, asked for twice when out of memory.
 pub fn index_of<'a, R: Abort + Threads + Wait + Sync>(
     rt: &R,
     alloc: Global,
@@ -296,7 +296,7 @@ fn elements_by<'a, R: Threads + Wait + Sync, G: Gate + Sync>(
     })
 }
 
-/// Whether a call by these settings tells these elements, and if it has them, their rows.
+/// Whether a call by these settings gives these elements, and if it has them, their rows.
 pub fn tells<R: Threads + Wait + Sync, G: Gate + Sync>(
     crew: &Crew<'_, R, G>,
     call: SequenceCall,

@@ -1,5 +1,5 @@
-// Every single cut and every pair of cuts: the answer is that of one piece, with all its rows. One worker reads a text in one
-// pass over the pieces, and by runs of the pieces, which are joined in a book; a sequence it reads by such runs alone.
+// Every single cut and every pair of cuts: the answer is that of one chunk, with all its rows. One worker reads a text in a single
+// pass, and by runs of the chunks, which are joined in an accumulator; a sequence it reads by such runs alone.
 ghost use Rattle.std.specs.Prelude.{◌≡◌, length};
 
 use crate::tests::answers::{ToldElement, are_equal, verdict_in};
@@ -68,14 +68,14 @@ fn texts_with_one_byte_replaced_behind_an_ignored_mark_are_answered_alike(rt: Ho
     check_replaced(&rt, rt.alloc(), MARKED_FIVE_ROWS, FrontMark::Ignored)
 }
 
-// What a text comes to in one piece, or the elements of a sequence.
+// The answer on a text in one chunk, or on the elements of a sequence.
 #[derive(Clone, Copy)]
 enum Whole<'a> {
     Text(&'a TextAnswer<'a>),
     Elements(&'a [ToldElement]),
 }
 
-// The answer of a crew that reads a text in one piece.
+// The answer of a crew that reads a text in one chunk.
 fn answer_of_one_piece<'a, R: Abort + Threads + Wait + Sync>(
     crew: &Crew<'_, R, OpenGate>,
     text: &'a [u8],
@@ -101,7 +101,7 @@ fn is_told<R: Abort + Threads + Wait + Sync>(
     are_equal(&answer, whole) && verdict == verdict_in(whole)
 }
 
-// Whether a crew that joins the runs of the pieces in a book gives the answer on a text that is cut so.
+// Whether a crew that joins the runs of the chunks in an accumulator gives the answer on a text that is cut so.
 fn is_joined<R: Abort + Threads + Wait + Sync>(
     crew: &Crew<'_, R, OpenGate>,
     text: &[u8],
@@ -153,7 +153,7 @@ fn check_at<R: Abort + Threads + Wait + Sync>(
     assert!(crew.rt; right, "{text:?} cut at {cuts:?} by {settings:?}");
 }
 
-// This cut alone, and with each that is behind it.
+// This cut alone, and with each that is after it.
 fn check_second_cuts<R: Abort + Threads + Wait + Sync>(
     crew: &Crew<'_, R, OpenGate>,
     text: &[u8],
@@ -205,7 +205,7 @@ fn check_short<R: Abort + Threads + Wait + Sync>(rt: &R, alloc: Global, mark: Fr
     }
 }
 
-// Two workers answer at each single cut as one does in one piece.
+// Two workers answer at each single cut as one does in one chunk.
 fn check_cuts_by_two<R: Abort + Threads + Wait + Sync>(
     rt: &R,
     alloc: Global,
@@ -236,14 +236,14 @@ fn check_by_two<R: Abort + Threads + Wait + Sync>(
     }
 }
 
-// What a text comes to in one piece, by both rules for names.
+// The answer on a text in one chunk, by both rules for names.
 #[derive(Clone, Copy)]
 struct Wanted<'a> {
     any: &'a TextAnswer<'a>,
     unique: &'a TextAnswer<'a>,
 }
 
-// Whether a crew answers on a text that is cut so as in one pass over one piece: in one pass over both, and by runs that it joins,
+// Whether a crew answers on a text that is cut so as in one pass over one chunk: in one pass over both, and by runs that it joins,
 // by either rule for names.
 fn is_alike<R: Abort + Threads + Wait + Sync>(
     crew: &Crew<'_, R, OpenGate>,

@@ -1,4 +1,4 @@
-// Deep, unclosed and over-closed texts, in small pieces and by many workers.
+// Deep, unclosed and over-closed texts, in small chunks and by many workers.
 ghost use Rattle.std.specs.Prelude.{◌≡◌, length};
 
 use crate::tests::calls::{crew_of, indexed};
@@ -37,7 +37,7 @@ fn deep_and_unclosed_texts_have_their_verdicts(rt: HostRuntime) {
     }
 }
 
-// Pieces of a byte take longer, so two of the four settings are tried.
+// Chunks of a byte take longer, so two of the four settings are tried.
 #[test]
 fn many_workers_read_deep_texts_in_pieces_of_a_byte(rt: HostRuntime) {
     check_all(&rt, rt.alloc(), 1, 64, &OFF_AND_ON)
@@ -70,7 +70,7 @@ fn repeated<R: Abort>(rt: &R, alloc: Global, parts: &[(u8, usize)]) -> Vec<u8> {
 struct DeepText {
     parts: &'static [(u8, usize)],
     nesting: u32,
-    /// What it comes to where so many containers may stand open.
+    /// The verdict where so many containers may be open.
     verdict: Verdict,
     /// The depths within which it is read.
     depths: &'static [u32],
@@ -125,7 +125,7 @@ const TEXTS: [DeepText; 7] = [
     },
 ];
 
-// What a text comes to within a depth.
+// The verdict on a text within a depth.
 fn verdict_within(text: &DeepText, containers: u32) -> Verdict {
     if containers < text.nesting {
         let at = containers as usize;
@@ -159,7 +159,7 @@ fn check_within<R: Abort + Threads + Wait + Sync>(
     }
 }
 
-// A text in pieces of so many bytes, at least one, within each of its depths.
+// A text in chunks of so many bytes, at least one, within each of its depths.
 fn check_deep<R: Abort + Threads + Wait + Sync>(
     crew: &Crew<'_, R, OpenGate>,
     deep: &DeepText,

@@ -83,7 +83,7 @@ struct Hands<P: Ledger, T: Ledger> {
     share: Share<P, T>,
 }
 
-/// A seat and a share of those that are left.
+/// A worker handle and a share of those that are left.
 fn next_of<P: Ledger, T: Ledger, R: Abort>(
     rt: &R,
     claims: &Claims,
@@ -102,7 +102,7 @@ fn next_of<P: Ledger, T: Ledger, R: Abort>(
     Hands { seat, share }
 }
 
-/// Lets one worker read until no piece is left.
+/// Lets one worker read until no chunk is left.
 fn work_to_the_end<'a, P: Ledger, T: Ledger, R: Abort + Wait>(
     rt: &R,
     alloc: Global,
@@ -203,7 +203,7 @@ fn run_by_two<
     }
 }
 
-/// The same, with blanks for the ledgers of a book.
+/// The same, with the `Blank`s of an accumulator's ledgers.
 fn run_of_two<'a, R: Abort + Threads + Wait + Sync>(
     rt: &R,
     alloc: Global,
@@ -228,7 +228,7 @@ fn check<R: Abort + Threads + Wait + Sync>(rt: &R, alloc: Global, worked: &Worke
     assert!(rt; right, "{worked:?} cut at {cuts:?}");
 }
 
-/// Draws a piece and puts as many bytes that begin one byte before it, and then meets the end of the pieces.
+/// Takes a chunk and puts as many bytes that begin one byte before it, and then meets the end of the chunks.
 fn put_before<'a, P: Ledger, T: Ledger, R: Abort + Wait>(
     rt: &R,
     alloc: Global,
@@ -263,7 +263,7 @@ fn put_before<'a, P: Ledger, T: Ledger, R: Abort + Wait>(
     }
 }
 
-/// Whether a run that begins before the front of the cutting comes back.
+/// Whether a run that begins before the front of the division comes back.
 fn is_other<P: Ledger, T: Ledger, R: Abort + Wait>(
     rt: &R,
     alloc: Global,
@@ -292,7 +292,7 @@ fn is_other<P: Ledger, T: Ledger, R: Abort + Wait>(
     }
 }
 
-/// The same, with blanks for the ledgers of a book.
+/// The same, with the `Blank`s of an accumulator's ledgers.
 fn is_other_of_one<R: Abort + Wait>(rt: &R, alloc: Global, text: &[u8], cutting: &Cutting) -> bool
     requires cutting { cutting.now.len ≡ length text.now }
     requires front { cutting.now.front ≡ 1 }

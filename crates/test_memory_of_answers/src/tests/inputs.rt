@@ -1,4 +1,4 @@
-// Inputs that several tests read, and what they come to.
+// Inputs that several tests read, and the answers on them.
 use crate::tests::answers::{Told, ToldElement};
 use jx_lex::Kind;
 use jx_run::{FrontMark, NameRule, Refusal};
@@ -13,7 +13,7 @@ pub const MARKS: [FrontMark; 2] = [FrontMark::Refused, FrontMark::Ignored];
 /// Both rules for names.
 pub const RULES: [NameRule; 2] = [NameRule::Any, NameRule::Unique];
 
-/// The text of five rows behind a byte order mark.
+/// The text of five rows after a byte order mark.
 pub const MARKED_FIVE_ROWS: &[u8] = b"\xEF\xBB\xBF{\"a\":[1,{\"b\":2}]}";
 
 pub const MARKED_FIVE: Worked = Worked {
@@ -24,7 +24,7 @@ pub const MARKED_FIVE: Worked = Worked {
     repeated: None,
 };
 
-/// A repeated name behind a byte order mark.
+/// A repeated name after a byte order mark.
 pub const MARKED_REPEATED: Worked = Worked {
     text: b"\xEF\xBB\xBF{\"a\":1,\"\\u0061\":2}",
     front: 3,
@@ -33,7 +33,7 @@ pub const MARKED_REPEATED: Worked = Worked {
     repeated: Some(7),
 };
 
-/// Texts behind a byte order mark, which is to be ignored.
+/// Texts after a byte order mark, which is to be ignored.
 pub const MARKED_TEXTS: [Worked; 2] = [MARKED_FIVE, MARKED_REPEATED];
 
 /// A sequence with the answers on its elements.
@@ -50,7 +50,7 @@ pub const ELEMENTS: [ToldElement; 3] = [
     (13, 16, TRUNCATED),
 ];
 
-// The same sequence behind a byte order mark.
+// The same sequence after a byte order mark.
 const MARKED_SEQUENCE: &[u8] = b"\xEF\xBB\xBF\x1Etrue\n\x1Etrue\x1E\x1E[1\n";
 
 const REFUSED_MARK: ToldElement = (0, 3, Told::Unmarked);
@@ -68,7 +68,7 @@ const BEHIND_IGNORED_MARK: [ToldElement; 3] = [
     (16, 19, TRUNCATED),
 ];
 
-/// A sequence of one number behind a byte order mark.
+/// A sequence of one number after a byte order mark.
 pub const MARKED_NUMBER: &[u8] = b"\xEF\xBB\xBF\x1E1\n";
 
 const NUMBER: ToldElement = (
@@ -77,7 +77,7 @@ const NUMBER: ToldElement = (
     Told::Accepted(&[(Kind::Number, (4, 5), None, 0, None)]),
 );
 
-/// The answer on the number where the mark is ignored.
+/// The answer on the number where the byte order mark is ignored.
 pub const NUMBER_ALONE: [ToldElement; 1] = [NUMBER];
 
 const ARRAY_ROWS: [WorkedRow; 2] = [

@@ -1,4 +1,4 @@
-// Commands under refused growths.
+// Commands where an allocation fails.
 use jx_command::{ArgFault, command_of};
 use std::alloc::{AllocError, Global};
 use std::test::Fail;
@@ -6,7 +6,7 @@ use test_memory_of_runs::lines::Lines;
 use test_orders::push_order;
 use test_words::Out;
 
-// Words behind the program's name, and what they ask for.
+// Words after the program's name, and what they ask for.
 const COMMANDS: [(&[&str], &str); 14] = [
     (&["chek"], "wrong words"),
     (
@@ -107,7 +107,7 @@ fn asked_by(alloc: Global, words: &[&str]) -> Result<String, AllocError> {
     let mut all = Vec::from_array(alloc, ["jx"])?;
     all.extend_from_slice(words)?;
     let mut told = Out::new(alloc);
-    match command_of(alloc, &all) {
+    match command_of(alloc, &all, 4) {
         Ok(order) => push_order(&mut told, &order),
         Err(fault) => push_fault(&mut told, &fault),
     }

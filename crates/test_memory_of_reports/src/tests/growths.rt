@@ -1,4 +1,4 @@
-// Reports over memory under refused growths: the right output, or want of memory with nothing written, and then the right output
+// Reports over memory where an allocation fails: the right output, or out of memory with nothing written, and then the right output
 // where it is asked for again.
 ghost use Rattle.std.specs.Prelude.{◌≡◌, IfOk};
 
@@ -242,7 +242,7 @@ fn command(alloc: Global, case: &Case, count: u8) -> Result<Command, Fail>
     })
 }
 
-// A report on an input in pieces of a byte, by that many workers, made once more where memory was refused.
+// A report on an input in chunks of a byte, by that many workers, made once more where it was out of memory.
 fn check<R: Abort + Threads + Wait + Sync>(
     rt: &R,
     alloc: Global,

@@ -124,9 +124,9 @@ fn stopped_from_each<R: Abort + Threads + Wait + Sync>(
 /// How many bytes of a text are read at a time.
 const BATCH: usize = 8;
 
-/// Checks a text whose workers stop in any batch. The first batch of each text meets a stop. What is behind a fault asks no
-/// gate, so that only an accepted text has more events than one batch. One worker asks as it begins each piece. Of several, the
-/// first asks before and behind the front, and all of them ask after each step with a piece. Where names have to be unique, one
+/// Checks a text whose workers stop in any batch. The first batch of each text meets a stop. Reading after a fault asks no
+/// gate, so that only an accepted text has more events than one batch. One worker asks as it begins each chunk. Of several, the
+/// first asks before and after the front, and all of them ask after each step with a chunk. Where names have to be unique, one
 /// thread asks before each batch.
 fn check_stops<R: Abort + Threads + Wait + Sync>(
     rt: &R,

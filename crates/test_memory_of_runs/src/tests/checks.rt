@@ -2,7 +2,7 @@
 use std::alloc::AllocError;
 use std::process::Abort;
 
-/// Fails the test unless the answer is that this is right. It tells the text and the number that were asked about.
+/// Fails the test unless the answer is right. The message has the text and the number that were asked about.
 pub(crate) fn assert_right<R: Abort>(
     rt: &R,
     answer: Result<bool, AllocError>,

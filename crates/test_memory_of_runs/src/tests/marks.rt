@@ -1,4 +1,4 @@
-// Lists of marks, made at once, joined at each place and read one by one, beside the table of moves.
+// Lists of token starts, made at once, joined at each place and read one by one, beside the table of moves.
 mod by_chance;
 mod chance;
 mod drawn;

@@ -1,4 +1,4 @@
-// Threads of the caller's own that draw pieces.
+// Threads of the caller's own that take chunks.
 ghost use Rattle.std.specs.Prelude.{◌≡◌, false};
 
 use jx_claim::{ClaimSeat, Claims};
@@ -18,7 +18,7 @@ fn four_threads_draw_each_piece_once(rt: HostRuntime) -> Result<(), Fail> {
     Ok(())
 }
 
-/// Draws until there is no piece, at most 2,000 times.
+/// Takes chunks until there is none, at most 2,000 times.
 fn drain(
     alloc: Global,
     claims: &Claims,
@@ -39,7 +39,7 @@ fn drain(
     Ok((seat, got))
 }
 
-// What four threads get together of 1,000 pieces, in rising order. Its one bound is `Threads`: no draw waits.
+// What four threads get together of 1,000 chunks, in rising order. Its one bound is `Threads`: taking a chunk does not wait.
 fn drawn_by_four_threads<R: Threads + Sync>(rt: &R, alloc: Global) -> Result<Vec<u32>, Fail> {
     let workers = Workers::new(4).ok_or("four workers")?;
     let (claims, seats) = Claims::open(alloc, 1000, workers)?;

@@ -4,19 +4,19 @@ use std::sync::atomic::{AtomicBool, AtomicU64, Ordering};
 
 const NOBODY: u64 = u64::MAX;
 
-/// How often the worker that is held looks whether it may go on.
+/// How often the worker that waits looks whether it may go on.
 const TURNS: u32 = 200_000_000;
 
 /// What another worker has to have done before the first one goes on.
 #[derive(Clone, Copy, PartialEq, Eq)]
 pub enum Until {
-    /// It drew a piece.
+    /// It took a chunk.
     Drew,
-    /// It put a run into the book or took one out.
+    /// It put a run into the accumulator or took one out.
     Moved,
 }
 
-/// Holds the worker that is the first to draw, behind as many draws as are said, until another one has done its part.
+/// Lets the first worker that takes a chunk wait, after so many chunks were taken, until another one has done its part.
 #[derive(Drop)]
 pub struct Meeting {
     until: Until,
@@ -28,12 +28,12 @@ pub struct Meeting {
 }
 
 impl Meeting {
-    /// Holds the worker that is the first to draw.
+    /// Lets the first worker that takes a chunk wait.
     pub fn new(until: Until) -> Meeting {
         Meeting::behind(0, until)
     }
 
-    /// Holds the worker that is the first to draw behind so many draws.
+    /// Lets the first worker wait that takes a chunk after so many were taken.
     pub fn behind(passing: u64, until: Until) -> Meeting {
         Meeting {
             until,
@@ -68,7 +68,7 @@ impl Meeting {
         }
     }
 
-    /// Whether a worker was held, and another one came in time.
+    /// Whether a worker waited, and another one came in time.
     pub fn took_place(&self) -> bool {
         self.first.load(Ordering::SeqCst) != NOBODY && !self.waited_in_vain.load(Ordering::SeqCst)
     }

@@ -1,4 +1,4 @@
-// Pointers that two workers look up, of whom one draws and is held until the other has drawn.
+// Pointers that two workers look up, of whom one takes a chunk and waits until the other has taken one.
 use crate::tests::meeting::{Meeting, Until};
 use jx_answer::{Answer, TextAnswer, find_all, index_text};
 use jx_claim::Cutting;

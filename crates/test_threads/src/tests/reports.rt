@@ -1,4 +1,4 @@
-// Reports by two workers, of whom one draws and is held until the other has put a run into the book.
+// Reports by two workers, of whom one takes a chunk and waits until the other has put a run into the accumulator.
 ghost use Rattle.std.specs.Prelude.{◌≡◌, IfOk};
 
 use crate::tests::meeting::{Meeting, Until};
@@ -24,7 +24,7 @@ fn another_worker_goes_on_in_a_report(rt: HostRuntime) -> Result<(), Fail> {
     Ok(())
 }
 
-// In the first batch its front is drawn, and the two pieces behind that. In the second one a worker draws and is held.
+// In the first batch its front is taken, and the two chunks after that. In the second one a worker takes a chunk and waits.
 #[test]
 fn another_worker_goes_on_in_the_second_batch_too(rt: HostRuntime) -> Result<(), Fail> {
     let check = check_by_two()?;

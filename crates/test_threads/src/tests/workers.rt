@@ -1,4 +1,4 @@
-// One worker draws and is held until the other has put a run into the book.
+// One worker takes a chunk and waits until the other has put a run into the accumulator.
 use crate::tests::meeting::{Meeting, Until};
 use jx_answer::{ElementAnswer, TextAnswer, index_sequence, index_text};
 use jx_claim::Cutting;

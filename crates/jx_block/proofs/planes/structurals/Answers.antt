@@ -1,17 +1,24 @@
-use Rattle.std.proofs.Common.{◌∙◌, refl, bit_or, arith}
-use Rattle.jx_block.specs.inside.Planes.{is_structural}
-use Rattle.std.proofs.lemmas.Simd.{zip2_splat, zip2_of_maps}
-use Rattle.jx_lex.proofs.Lanes.{masked, lanes_mask}
+use Rattle.std.proofs.Common.{◌∙◌}
+use Rattle.std.specs.Prelude.{◌||◌, ◌==◌}
+use Rattle.jx_lex.proofs.Bits.{bit-or}
+use Rattle.jx_block.proofs.Words.{lane}
 use Rattle.jx_block.proofs.planes.structurals.Goals as goal
 
 pub returns : goal.returns
-returns c =
+returns c k lt =
     let v = c.args.block in
     let long = c.fits-block.0 in
-    masked (zip2_of_maps bit_or _ _ v
-    (zip2_of_maps bit_or _ _ v
-    (zip2_of_maps bit_or _ _ v
-    (zip2_of_maps bit_or _ _ v
-    (zip2_of_maps bit_or _ _ v
-    (zip2_splat _ v 64 0x5b long) (zip2_splat _ v 64 0x5d long)) (zip2_splat _ v 64 0x7b long)) (zip2_splat _ v 64 0x7d long)) (zip2_splat _ v 64 0x3a long)) (zip2_splat _ v 64 0x2c long))
-    ∙ lanes_mask 64 (omega arith) _ is_structural v long c.fits-block.1 refl
+    bit-or _ _ k
+    ∙ (λ i.
+    (bit-or _ _ k
+    ∙ (λ i.
+    (bit-or _ _ k
+    ∙ (λ i.
+    (bit-or _ _ k
+    ∙ (λ i.
+    (bit-or _ _ k
+    ∙ (λ i. lane (λ b. b == 0x5b) v c.equal.result k long c.equal.ensures lt i || lane (λ b. b == 0x5d) v c.equal-2.result k long c.equal-2.ensures lt i)) i
+    || lane (λ b. b == 0x7b) v c.equal-3.result k long c.equal-3.ensures lt i)) i
+    || lane (λ b. b == 0x7d) v c.equal-4.result k long c.equal-4.ensures lt i)) i
+    || lane (λ b. b == 0x3a) v c.equal-5.result k long c.equal-5.ensures lt i)) i
+    || lane (λ b. b == 0x2c) v c.equal-6.result k long c.equal-6.ensures lt i)

@@ -10,7 +10,7 @@ unreachable-requires c =
     let bytes : List ℕ = c.args.bytes.items in
     let p = c.in_ok-reached.reached.progress in
     let stack = c.in_ok-reached.reached.stack in
-    let law = c.reader_is_grammar.ensures.by_settings in
+    let law = c.reader_and_grammar.ensures.by_settings in
     let read : IsReadTo settings 0 bytes p stack = subst (λ (l : List ℕ). IsReadTo settings 0 l p stack) c.deref.ensures.value c.in_ok-reached.ensures.reads in
     elim c.in-Stopped.is [
       | inl x ↦ never_stopped law settings bytes p x.0 stack c.requires read x.1
@@ -36,5 +36,5 @@ returns-in_ok-end_text-in-Going-clause-some c =
     let p = c.in_ok-reached.reached.progress in
     let stack = c.in_ok-reached.reached.stack in
     let read : IsReadTo settings 0 bytes p stack = subst (λ (l : List ℕ). IsReadTo settings 0 l p stack) c.deref.ensures.value c.in_ok-reached.ensures.reads in
-    ended c.reader_is_grammar.ensures.by_settings settings bytes c.end_text.new.out.items p c.in-Going.state stack c.in_ok-expect-in-Going.expect
+    ended c.reader_and_grammar.ensures.by_settings settings bytes c.end_text.new.out.items p c.in-Going.state stack c.in_ok-expect-in-Going.expect
     (reverse c.in_ok-expect-in-Going.holders.items) read c.in-Going.is c.in_ok-expect-in-Going.ensures.standing c.in_ok-end_text-in-Going.ensures

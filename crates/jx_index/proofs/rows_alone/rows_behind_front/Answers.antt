@@ -9,7 +9,7 @@ returns-in-Skip-clause-accepted c =
     let text = c.args.text.now in
     let settings = c.args.settings.now in
     let count = c.in-Skip.count in
-    let law = c.indexes_stand_behind_fronts.ensures in
+    let law = c.index_behind_a_front.ensures in
     IfOk-weaker c.rows_from.result _ _
     (λ read. IfOk-weaker read _ _ (λ table h. rows_behind settings text count (λ i k. law.index settings text count i (sym c.in-Skip.ensures.value) k) table.items h))
     c.rows_from.ensures.accepted
@@ -19,7 +19,7 @@ returns-in-Skip-clause-refused c =
     let text = c.args.text.now in
     let settings = c.args.settings.now in
     let count = c.in-Skip.count in
-    let law = c.indexes_stand_behind_fronts.ensures in
+    let law = c.index_behind_a_front.ensures in
     IfOk-weaker c.rows_from.result _ _
     (λ read. IfErr-weaker read _ _ (λ refusal h. law.verdict settings text count (Refused refusal) (sym c.in-Skip.ensures.value) h))
     c.rows_from.ensures.refused

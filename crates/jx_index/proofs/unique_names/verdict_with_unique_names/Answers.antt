@@ -23,7 +23,7 @@ returns-in-Err g c =
     record {
       verdict =
           no_text
-          (c.indexes_stand_behind_fronts.ensures.verdict settings text start (Refused c.in-Err.refusal) (sym c.in-Skip.ensures.value)
+          (c.index_behind_a_front.ensures.verdict settings text start (Refused c.in-Err.refusal) (sym c.in-Skip.ensures.value)
           (IfErr-at_err (λ (f : Refusal). Judged start (rest_from start text) settings.depth (Refused f)) c.in-Err.is c.in_ok-read.ensures.refused));
     }
 
@@ -35,7 +35,7 @@ returns-in-Ok g c =
     let read = c.in_ok-read.ensures in
     record {
       verdict =
-          unless_repeated settings text start (λ i k. c.indexes_stand_behind_fronts.ensures.index settings text start i (sym c.in-Skip.ensures.value) k) c.requires.unique c.in-Ok.name
+          unless_repeated settings text start (λ i k. c.index_behind_a_front.ensures.index settings text start i (sym c.in-Skip.ensures.value) k) c.requires.unique c.in-Ok.name
           (IfOk-at_ok (λ (name : Option ℕ). Judged start (rest_from start text) settings.depth Accepted) c.in-Ok.is read.accepted)
           (IfOk-at_ok (λ (name : Option ℕ). (limit : ℕ) (tree : Tree) → IsText text start (length text) limit tree → IsLeast (IsRepeat text (rows tree)) name) c.in-Ok.is read.name)
           c.accepted_unless.result c.accepted_unless.ensures;

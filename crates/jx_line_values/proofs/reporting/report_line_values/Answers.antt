@@ -6,8 +6,7 @@ use Rattle.jx_ends.specs.declared.report_fault.ReportFault.TheVariants as fault
 use Rattle.jx_ends.specs.Ends.{AppendsBeginning}
 use Rattle.jx_ends.proofs.Faults.{fault_back, same_fault}
 use Rattle.jx_line_values.proofs.Writes.{as_written, lines_at_end, lines_of_nothing, part_at_end, reports}
-use Rattle.jx_line_values.specs.LineValues.{pointers_of}
-use Rattle.jx_line_values.specs.inside.Looking.{IsTrieOf}
+use Rattle.jx_find.specs.PointerTrie.{IsTrieOf}
 use Rattle.jx_line_values.proofs.reporting.report_line_values.Goals as goal
 
 pub returns-in_err-trie-clause-lines : goal.returns-in_err-trie-clause-lines
@@ -20,11 +19,11 @@ returns-in_err-buffer-clause-lines g c = λ is.
 
 pub write_all_due-requires-clause-pointers : goal.write_all_due-requires-clause-pointers
 write_all_due-requires-clause-pointers g c =
-    c.look_up-look_up.ensures (pointers_of c.args.task.now) (subst (λ ss. IsTrieOf (map string_bytes ss) c.in_ok-trie.trie) c.deref.ensures.value c.in_ok-trie.ensures)
+    subst (λ ss. IsTrieOf (map string_bytes ss) c.in_ok-trie.trie) c.deref.ensures.value c.in_ok-trie.ensures
 
 pub finish-requires : goal.finish-requires
 finish-requires g c =
-    c.look_up-look_up.ensures (pointers_of c.args.task.now) (subst (λ ss. IsTrieOf (map string_bytes ss) c.in_ok-trie.trie) c.deref.ensures.value c.in_ok-trie.ensures)
+    subst (λ ss. IsTrieOf (map string_bytes ss) c.in_ok-trie.trie) c.deref.ensures.value c.in_ok-trie.ensures
 
 pub write_all_due-requires-clause-taken : goal.write_all_due-requires-clause-taken
 write_all_due-requires-clause-taken g c = c.new-cutter.ensures.taken c.args.task.now

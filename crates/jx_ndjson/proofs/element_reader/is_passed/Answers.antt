@@ -14,5 +14,5 @@ returns-in-Ignored c = λ input end first.
     c.front.ensures.value
     ∙ ap (λ (m : FrontMark). front_of m c.args.first.now) is
     ∙ ap (λ (xs : List ℕ). front_of Ignored xs) (first at)
-    ∙ front_shows c.fronts_decide_where_texts_begin.ensures.stays Ignored input in
+    ∙ front_shows c.beginning_of_a_text_by_its_front.ensures.stays Ignored input in
     c.is_mark_alone.ensures.alone input seen (omega (arith, end)) ∙ sym (ap (λ (m : FrontMark). is_passed_by m input c.args.span) is)

@@ -18,5 +18,5 @@ returns-clause-text c = λ is.
     let bytes : List ℕ = slice_range c.args.slice.now 0 c.args.to in
     let seen = scanned c.reset.new.self c.read_between.new.stack (lex Gap 0 bytes) c.reset.ensures.reads c.in_ok-exit.ensures.seen in
     subst (λ (xs : List ℕ). IsTextWithin c.args.stack.now.depth xs) (slice_first c.args.to c.args.slice.now)
-    (text_within c.reader_is_grammar.ensures.verdict c.args.stack.now.depth bytes c.in_ok-exit.exit c.read_between.new.stack (seen.0 ∙ c.reset.ensures.depth) c.in_ok-exit.ensures.exit seen.1
+    (text_within c.reader_and_grammar.ensures.verdict c.args.stack.now.depth bytes c.in_ok-exit.exit c.read_between.new.stack (seen.0 ∙ c.reset.ensures.depth) c.in_ok-exit.ensures.exit seen.1
     (subst (λ (w : Whole). IsEnd c.in_ok-exit.exit w) c.whole.ensures (c.is_end.ensures is)))

@@ -25,6 +25,6 @@ loop-preserved c =
       depth = deep ∙ v.depth;
       within = omega (arith, within, long, high);
       few = omega (arith, few, some);
-      texts = one_more c.reader_is_grammar.ensures.verdict c.args.depth slice at n c.loop.count within (omega (arith, long, high)) fits few v.texts
+      texts = one_more c.reader_and_grammar.ensures.verdict c.args.depth slice at n c.loop.count within (omega (arith, long, high)) fits few v.texts
           (subst (λ (d : ℕ). AreTexts d (take n rest) 1) v.depth text);
     }

@@ -28,7 +28,7 @@ returns-in_err-exit-clause-lines g c = λ is.
     let n = g.S.Source.remaining c.write_all_due.new.reader in
     let w = g.W.Sink.contents c.args.writer.now in
     let x = g.W.Sink.contents c.write_all_due.new.writer in
-    lines_at_end (g.T.Teller.has_taken c.args.task.now) g.T.Teller.ready (g.T.Teller.is_due c.args.task.now) (g.T.Teller.is_output c.args.task.now) (c.what_is_taken_is_due.ensures.due c.args.task.now) u n w x c.write_all_due.new.teller (as_written (g.T.Teller.has_taken c.args.task.now) g.T.Teller.ready (g.T.Teller.is_due c.args.task.now) (g.T.Teller.is_output c.args.task.now) u n w x c.write_all_due.new.teller c.in_ok-write_all_due.ensures.ok)
+    lines_at_end (g.T.Teller.has_taken c.args.task.now) g.T.Teller.ready (g.T.Teller.is_due c.args.task.now) (g.T.Teller.is_output c.args.task.now) (c.lines_taken_and_waiting.ensures.due c.args.task.now) u n w x c.write_all_due.new.teller (as_written (g.T.Teller.has_taken c.args.task.now) g.T.Teller.ready (g.T.Teller.is_due c.args.task.now) (g.T.Teller.is_output c.args.task.now) u n w x c.write_all_due.new.teller c.in_ok-write_all_due.ensures.ok)
 
 pub returns-in_err-write_whole-clause-beginning : goal.returns-in_err-write_whole-clause-beginning
 returns-in_err-write_whole-clause-beginning g c = λ is.

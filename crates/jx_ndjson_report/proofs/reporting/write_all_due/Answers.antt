@@ -8,7 +8,7 @@ use Rattle.jx_ndjson_report.proofs.reporting.write_all_due.Goals as goal
 pub returns-in_err-write_due-in-Ok-clause-lines : goal.returns-in_err-write_due-in-Ok-clause-lines
 returns-in_err-write_due-in-Ok-clause-lines g c = λ is.
     let lines : WroteLines (g.T.Teller.is_due c.args.task.now) (g.S.Source.remaining c.args.reader.now) (g.S.Source.remaining c.read.new.self) (g.W.Sink.contents c.args.writer.now) (g.W.Sink.contents c.loop.writer) =
-    lines_at_fault (g.T.Teller.has_taken c.args.task.now) g.T.Teller.ready (g.T.Teller.is_due c.args.task.now) (g.T.Teller.is_output c.args.task.now) (c.what_is_taken_is_due.ensures.due c.args.task.now) (g.S.Source.remaining c.args.reader.now) (g.S.Source.remaining c.loop.reader) (g.S.Source.remaining c.read.new.self)
+    lines_at_fault (g.T.Teller.has_taken c.args.task.now) g.T.Teller.ready (g.T.Teller.is_due c.args.task.now) (g.T.Teller.is_output c.args.task.now) (c.lines_taken_and_waiting.ensures.due c.args.task.now) (g.S.Source.remaining c.args.reader.now) (g.S.Source.remaining c.loop.reader) (g.S.Source.remaining c.read.new.self)
     (g.W.Sink.contents c.args.writer.now) (g.W.Sink.contents c.loop.writer) c.loop.teller _ c.loop.invariant.written c.in-Ok.ensures.bytes.0 in
     let p = err_from_is_err_and c.from_residual.result c.from_residual.ensures.1 in
     let memory : c.in_err-write_due-in-Ok.field-0.0 ≡ fault.Memory = sym p.2 ∙ fault_is c.from_residual.result p.0 fault.Memory p.1 is in
@@ -24,7 +24,7 @@ returns-in_err-write_due-in-Ok-clause-beginning g c = λ is.
 
 pub returns-in-Err-clause-due : goal.returns-in-Err-clause-due
 returns-in-Err-clause-due g c = λ is.
-    due_at_fault (g.T.Teller.has_taken c.args.task.now) g.T.Teller.ready (g.T.Teller.is_due c.args.task.now) (g.T.Teller.is_output c.args.task.now) (c.what_is_taken_is_due.ensures.due c.args.task.now) (g.S.Source.remaining c.args.reader.now) (g.S.Source.remaining c.loop.reader) (g.S.Source.remaining c.read.new.self)
+    due_at_fault (g.T.Teller.has_taken c.args.task.now) g.T.Teller.ready (g.T.Teller.is_due c.args.task.now) (g.T.Teller.is_output c.args.task.now) (c.lines_taken_and_waiting.ensures.due c.args.task.now) (g.S.Source.remaining c.args.reader.now) (g.S.Source.remaining c.loop.reader) (g.S.Source.remaining c.read.new.self)
     (g.W.Sink.contents c.args.writer.now) (g.W.Sink.contents c.loop.writer) c.loop.teller c.loop.invariant.written c.in-Err.ensures.bytes
 
 pub loop-preserved : goal.loop-preserved
@@ -37,5 +37,5 @@ loop-preserved g c = record {
 
 pub returns-clause-lines : goal.returns-clause-lines
 returns-clause-lines g c = λ is.
-    lines_at_end (g.T.Teller.has_taken c.args.task.now) g.T.Teller.ready (g.T.Teller.is_due c.args.task.now) (g.T.Teller.is_output c.args.task.now) (c.what_is_taken_is_due.ensures.due c.args.task.now) (g.S.Source.remaining c.args.reader.now) (g.S.Source.remaining c.loop.reader) (g.W.Sink.contents c.args.writer.now) (g.W.Sink.contents c.loop.writer)
+    lines_at_end (g.T.Teller.has_taken c.args.task.now) g.T.Teller.ready (g.T.Teller.is_due c.args.task.now) (g.T.Teller.is_output c.args.task.now) (c.lines_taken_and_waiting.ensures.due c.args.task.now) (g.S.Source.remaining c.args.reader.now) (g.S.Source.remaining c.loop.reader) (g.W.Sink.contents c.args.writer.now) (g.W.Sink.contents c.loop.writer)
     c.loop.teller c.loop.invariant.written

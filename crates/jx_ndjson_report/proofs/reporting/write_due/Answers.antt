@@ -7,5 +7,5 @@ returns-in_err-write_whole-clause-beginning g c = λ is.
     record {
       more = g.T.Teller.ready c.feed.new.self;
       wrote = subst (λ (l : List ℕ). AppendsBeginning (g.W.Sink.contents c.args.writer.now) (g.W.Sink.contents c.write_whole.new.writer) l) c.ready.ensures.ready c.in_err-write_whole.ensures.err;
-      due = λ text given h. c.what_is_taken_is_due.ensures.due c.args.task.now (text ++ c.args.batch.now) given c.feed.new.self (c.in_ok-feed.ensures.taken text given h);
+      due = λ text given h. c.lines_taken_and_waiting.ensures.due c.args.task.now (text ++ c.args.batch.now) given c.feed.new.self (c.in_ok-feed.ensures.taken text given h);
     }

@@ -11,7 +11,7 @@ returns-in-Ok-clause-ok g c =
     let command = c.args.command.now in
     let verdict = c.in-Ok.verdict in
     let on = c.in-Ok.ensures.ok in
-    let judged = (c.any_names_change_nothing.ensures.verdict command.settings on.text verdict c.requires.names).1 on.judged in
+    let judged = (c.verdict_without_a_rule_on_names.ensures.verdict command.settings on.text verdict c.requires.names).1 on.judged in
     carried (λ (exit : Exit). (output : List ℕ) × (ByVerdict SaysAccepted verdict output exit × Appends (g.W.Sink.contents c.args.writer.now) (g.W.Sink.contents c.show.new.writer) (shown_output command.quiet output)))
     (ReportsAt command (g.F.SharedAt.content c.args.file.now) (g.W.Sink.contents c.args.writer.now) (g.W.Sink.contents c.show.new.writer)) c.show.result c.show.ensures.ok
     (λ exit said. record {
@@ -27,7 +27,7 @@ returns-in-Ok-clause-beginning g c = λ is.
     let command = c.args.command.now in
     let verdict = c.in-Ok.verdict in
     let on = c.in-Ok.ensures.ok in
-    let judged = (c.any_names_change_nothing.ensures.verdict command.settings on.text verdict c.requires.names).1 on.judged in
+    let judged = (c.verdict_without_a_rule_on_names.ensures.verdict command.settings on.text verdict c.requires.names).1 on.judged in
     let said = c.show.ensures.beginning is in
     record {
       text = on.text;

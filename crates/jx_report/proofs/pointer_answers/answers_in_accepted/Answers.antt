@@ -14,6 +14,6 @@ returns c =
     let text = c.args.text.now in
     let spelt = map string_bytes c.args.pointers.now in
     IfOk-weaker c.answers_in_one_pass.result _ _
-    (λ (r : Result (Vec PointerAnswer Global) Refusal) h. answers_by_names c.verdicts_by_settings_are_one.ensures.verdict c.args.settings.now text spelt c.requires r
+    (λ (r : Result (Vec PointerAnswer Global) Refusal) h. answers_by_names c.unique_verdicts_by_settings.ensures.verdict c.args.settings.now text spelt c.requires r
     (subst (λ (s : Settings). AreAnswersBy s text spelt r) c.with_any_names.ensures h))
     c.answers_in_one_pass.ensures

@@ -23,4 +23,4 @@ returns c =
     c.in_ok-answers-in-Ok.ensures
     ∙ ap (λ (us : List (Option PointerFault)). each_answer answer_in us c.deref-in-Ok-2.result.now) c.deref-in-Ok.ensures.value
     ∙ ap (λ (fs : List (Result Found FindFault)). each_answer answer_in read.unread.items fs) c.deref-in-Ok-2.ensures.value in
-    (IfOk-at_ok _ c.in-Ok.is c.in_ok-refusal.ensures.accepted, are_answered c.look_ups_end_at_rows.ensures.led settings text spelt read.pointers.items read.unread.items found told c.in_ok-read.ensures there items)
+    (IfOk-at_ok _ c.in-Ok.is c.in_ok-refusal.ensures.accepted, are_answered c.rows_of_look_ups.ensures.led settings text spelt read.pointers.items read.unread.items found told c.in_ok-read.ensures there items)

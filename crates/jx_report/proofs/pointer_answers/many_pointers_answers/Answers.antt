@@ -10,5 +10,5 @@ returns-in_ok-answers-in-Accepted g c =
     let settings = c.args.settings.now in
     let text = c.args.text.now in
     let h = subst (λ (a : TextAnswer). IsAnswerBy settings text a) c.in-Accepted.is c.in_ok-refusal.ensures.answer in
-    indexed_answers c.indexes_stand_behind_fronts.ensures.text settings text c.in-Accepted.index (map string_bytes c.args.pointers.now) c.in_ok-answers-in-Accepted.answers h.0 h.1
+    indexed_answers c.index_behind_a_front.ensures.text settings text c.in-Accepted.index (map string_bytes c.args.pointers.now) c.in_ok-answers-in-Accepted.answers h.0 h.1
     c.in_ok-answers-in-Accepted.ensures

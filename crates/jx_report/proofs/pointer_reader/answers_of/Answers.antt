@@ -18,6 +18,6 @@ returns-in_ok-answers-in-Ok c = λ settings spelt pointers text read fed.
     let items : told.items ≡ each_answer answer_in unread found =
     c.in_ok-answers-in-Ok.ensures ∙ ap (λ (fs : List (Result Found FindFault)). each_answer answer_in unread fs) c.deref.ensures.value in (
       IfOk-at_ok _ c.in-Ok.is c.in_ok-refusal.ensures.accepted settings pointers text fed,
-      are_answered c.look_ups_end_at_rows.ensures.led settings text spelt pointers unread found told.items read
+      are_answered c.rows_of_look_ups.ensures.led settings text spelt pointers unread found told.items read
           (IfOk-at_ok _ c.in-Ok.is c.in_ok-refusal.ensures.found settings pointers text fed) items,
     )

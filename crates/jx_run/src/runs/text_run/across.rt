@@ -8,7 +8,7 @@ ghost use Rattle.jx_run.specs.Tree.{span};
 
 use crate::readers::started::Started;
 use crate::runs::text_run::TextRun;
-use jx_lex::{LexExit, LexState, Mark, Span, pieces_are_read_in_turn};
+use jx_lex::{LexExit, LexState, Mark, Span, lex_of_two_parts};
 use jx_summary::Summary;
 use std::alloc::AllocError;
 
@@ -36,7 +36,7 @@ impl TextRun {
         ensures marks { (xs ys : List ℕ) → IsTextRun xs self.now → IsTextRun ys right.now → IfOk result (λ r. r.0.items ≡ (lex Gap self.now.map.start (xs ++ ys)).marks) }
         ensures ends { (xs ys : List ℕ) → IsTextRun xs self.now → IsTextRun ys right.now → IfOk result (λ r. r.1.items ≡ (lex Gap self.now.map.start (xs ++ ys)).ends) }
     {
-        pieces_are_read_in_turn();
+        lex_of_two_parts();
         let (mut marks, mut ends) = self.copy_track(LexState::Gap)?;
         match self.map.entry(LexState::Gap).exit() {
             LexExit::Fault(_) => Ok((marks, ends)),

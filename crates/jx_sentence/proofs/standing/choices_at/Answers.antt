@@ -16,5 +16,5 @@ returns c = λ limit from bytes byte stands.
     ap (λ (choices : List Choice). are_named choices (class_at byte)) c.choices_for.ensures
     ∙ exact_choices s.state s.expect s.top (class_at byte)
     ∙ ap (λ (h : Holder). step_allowed (move s.state byte) s.expect h) stands.innermost in
-    let by = exact c.reader_is_grammar.ensures.begins c.reader_is_grammar.ensures.too_deep limit from bytes s.state s.expect stands.open_ones byte stands.reading (whole_steps s.state (class_at byte)) in
+    let by = exact c.reader_and_grammar.ensures.begins c.reader_and_grammar.ensures.too_deep limit from bytes s.state s.expect stands.open_ones byte stands.reading (whole_steps s.state (class_at byte)) in
     ((λ h. by.0 (sym named ∙ h)), (λ h. named ∙ by.1 h))

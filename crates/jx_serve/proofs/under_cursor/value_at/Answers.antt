@@ -14,5 +14,5 @@ returns-in-None c =
 pub returns : goal.returns
 returns c =
     held_by c.args.settings.now c.args.text.now c.args.offset c.in-Some.number c.in_ok-answer.answer c.in-Accepted.index c.rows-rows.result.now c.index-rows-number.result c.in_ok-pointer-in-Some.pointer
-    (c.indexes_stand_behind_fronts.ensures.text c.args.settings.now c.args.text.now c.in-Accepted.index) c.in_ok-answer.ensures.answer c.in-Accepted.is c.rows-rows.ensures.same c.in-Some.ensures.some
+    (c.index_behind_a_front.ensures.text c.args.settings.now c.args.text.now c.in-Accepted.index) c.in_ok-answer.ensures.answer c.in-Accepted.is c.rows-rows.ensures.same c.in-Some.ensures.some
     (slice_get_read c.rows-rows.result.now (length c.rows-rows.result.now) c.in-Some.number c.index-rows-number.result refl c.in-Some.ensures.within c.index-rows-number.is) c.in_ok-pointer-in-Some.ensures

@@ -12,19 +12,19 @@ use Rattle.jx_values.proofs.elements.report_elements.Goals as goal
 
 pub returns-in_err-each-clause-lines : goal.returns-in_err-each-clause-lines
 returns-in_err-each-clause-lines g c = λ is.
-    lines_at_start c.args.content c.args.settings.now c.args.pointer.now (g.S.Source.remaining c.args.reader.now) (g.W.Sink.contents c.args.writer.now) (c.nothing_is_due_of_no_byte.ensures.none_by c.args.content c.args.settings.now c.args.pointer.now)
+    lines_at_start c.args.content c.args.settings.now c.args.pointer.now (g.S.Source.remaining c.args.reader.now) (g.W.Sink.contents c.args.writer.now) (c.lines_due_of_no_byte.ensures.none_by c.args.content c.args.settings.now c.args.pointer.now)
 
 pub returns-in_err-pointers-clause-lines : goal.returns-in_err-pointers-clause-lines
 returns-in_err-pointers-clause-lines g c = λ is.
-    lines_at_start c.args.content c.args.settings.now c.args.pointer.now (g.S.Source.remaining c.args.reader.now) (g.W.Sink.contents c.args.writer.now) (c.nothing_is_due_of_no_byte.ensures.none_by c.args.content c.args.settings.now c.args.pointer.now)
+    lines_at_start c.args.content c.args.settings.now c.args.pointer.now (g.S.Source.remaining c.args.reader.now) (g.W.Sink.contents c.args.writer.now) (c.lines_due_of_no_byte.ensures.none_by c.args.content c.args.settings.now c.args.pointer.now)
 
 pub returns-in_err-sought-clause-lines : goal.returns-in_err-sought-clause-lines
 returns-in_err-sought-clause-lines g c = λ is.
-    lines_at_start c.args.content c.args.settings.now c.args.pointer.now (g.S.Source.remaining c.args.reader.now) (g.W.Sink.contents c.args.writer.now) (c.nothing_is_due_of_no_byte.ensures.none_by c.args.content c.args.settings.now c.args.pointer.now)
+    lines_at_start c.args.content c.args.settings.now c.args.pointer.now (g.S.Source.remaining c.args.reader.now) (g.W.Sink.contents c.args.writer.now) (c.lines_due_of_no_byte.ensures.none_by c.args.content c.args.settings.now c.args.pointer.now)
 
 pub returns-in_err-buffer-clause-lines : goal.returns-in_err-buffer-clause-lines
 returns-in_err-buffer-clause-lines g c = λ is.
-    lines_at_start c.args.content c.args.settings.now c.args.pointer.now (g.S.Source.remaining c.args.reader.now) (g.W.Sink.contents c.args.writer.now) (c.nothing_is_due_of_no_byte.ensures.none_by c.args.content c.args.settings.now c.args.pointer.now)
+    lines_at_start c.args.content c.args.settings.now c.args.pointer.now (g.S.Source.remaining c.args.reader.now) (g.W.Sink.contents c.args.writer.now) (c.lines_due_of_no_byte.ensures.none_by c.args.content c.args.settings.now c.args.pointer.now)
 
 pub write_all_due-requires-clause-sought : goal.write_all_due-requires-clause-sought
 write_all_due-requires-clause-sought g c = λ κs lives.
@@ -70,7 +70,7 @@ returns-in_err-told-clause-lines g c = λ is.
     let n = g.S.Source.remaining c.write_all_due.new.reader in
     let w = g.W.Sink.contents c.args.writer.now in
     let x = g.W.Sink.contents c.write_all_due.new.writer in
-    lines_at_end c.args.content c.args.settings.now c.args.pointer.now u n w x c.write_all_due.new.each c.write_all_due.new.sought (c.what_is_taken_is_due.ensures.due_by c.args.content) (c.write_all_due.ensures.settings ∙ c.in_ok-each.ensures.settings)
+    lines_at_end c.args.content c.args.settings.now c.args.pointer.now u n w x c.write_all_due.new.each c.write_all_due.new.sought (c.lines_taken_and_waiting.ensures.due_by c.args.content) (c.write_all_due.ensures.settings ∙ c.in_ok-each.ensures.settings)
     (as_written c.args.pointer.now u n w x c.write_all_due.new.each c.write_all_due.new.sought c.in_ok-write_all_due.ensures.ok)
 
 pub returns-clause-ok : goal.returns-clause-ok
@@ -79,6 +79,6 @@ returns-clause-ok g c =
     let retold = g.E.Sink.contents c.tell.new.errors in
     reports c.args.content c.args.settings.now c.args.pointer.now (g.S.Source.remaining c.args.reader.now) (g.S.Source.remaining c.write_all_due.new.reader) (g.W.Sink.contents c.args.writer.now) (g.W.Sink.contents c.write_all_due.new.writer)
     (g.E.Sink.has_failed c.tell.new.errors) told retold c.write_all_due.new.each c.write_all_due.new.sought c.verdict_of.result c.in_ok-told.told.items c.exit_by.result
-    (c.what_is_taken_is_due.ensures.due_by c.args.content) (c.write_all_due.ensures.settings ∙ c.in_ok-each.ensures.settings) c.in_ok-write_all_due.ensures.ok (c.verdict_of.ensures c.args.content) c.in_ok-told.ensures
+    (c.lines_taken_and_waiting.ensures.due_by c.args.content) (c.write_all_due.ensures.settings ∙ c.in_ok-each.ensures.settings) c.in_ok-write_all_due.ensures.ok (c.verdict_of.ensures c.args.content) c.in_ok-told.ensures
     (c.exit_by.ensures ∙ ap exit_by c.deref-2.ensures.value)
     (λ lost. subst (λ l. Appends told retold l) c.deref.ensures.value (c.tell.ensures lost))

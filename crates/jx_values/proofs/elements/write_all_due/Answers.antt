@@ -12,7 +12,7 @@ returns-in_err-write_due-in-Ok-clause-lines g c = λ is.
     let written : IsWritten c.args.content c.args.pointer.now (g.S.Source.remaining c.args.reader.now) (g.S.Source.remaining c.loop.reader) (g.W.Sink.contents c.args.writer.now) (g.W.Sink.contents c.loop.writer) c.loop.each c.loop.sought = c.loop.invariant.written in
     let lines : WroteLines c.args.content c.args.each.now.reader.settings c.args.pointer.now (g.S.Source.remaining c.args.reader.now) (g.S.Source.remaining c.read.new.self) (g.W.Sink.contents c.args.writer.now) (g.W.Sink.contents c.loop.writer) =
     lines_at_fault c.args.content c.args.each.now.reader.settings c.args.pointer.now (g.S.Source.remaining c.args.reader.now) (g.S.Source.remaining c.loop.reader) (g.S.Source.remaining c.read.new.self) (g.W.Sink.contents c.args.writer.now) (g.W.Sink.contents c.loop.writer)
-    c.loop.each c.loop.sought _ (c.what_is_taken_is_due.ensures.due_by c.args.content) c.loop.invariant.settings written c.in-Ok.ensures.bytes.0 in
+    c.loop.each c.loop.sought _ (c.lines_taken_and_waiting.ensures.due_by c.args.content) c.loop.invariant.settings written c.in-Ok.ensures.bytes.0 in
     let p = err_from_is_err_and c.from_residual.result c.from_residual.ensures.1 in
     let memory : c.in_err-write_due-in-Ok.field-0.0 ≡ fault.Memory = sym p.2 ∙ fault_is c.from_residual.result p.0 fault.Memory p.1 is in
     let kept : c.write_due.new.writer ≡ c.loop.writer = c.in_err-write_due-in-Ok.ensures.unwritten (λ w. let e : fault.Memory ≡ fault.Write = sym memory ∙ w in absurd cc) in
@@ -28,7 +28,7 @@ returns-in_err-write_due-in-Ok-clause-beginning g c = λ is.
 pub returns-in-Err-clause-due : goal.returns-in-Err-clause-due
 returns-in-Err-clause-due g c = λ is.
     due_at_fault c.args.content c.args.each.now.reader.settings c.args.pointer.now (g.S.Source.remaining c.args.reader.now) (g.S.Source.remaining c.loop.reader) (g.S.Source.remaining c.read.new.self) (g.W.Sink.contents c.args.writer.now) (g.W.Sink.contents c.loop.writer)
-    c.loop.each c.loop.sought (c.what_is_taken_is_due.ensures.due_by c.args.content) c.loop.invariant.settings c.loop.invariant.written c.in-Err.ensures.bytes
+    c.loop.each c.loop.sought (c.lines_taken_and_waiting.ensures.due_by c.args.content) c.loop.invariant.settings c.loop.invariant.written c.in-Err.ensures.bytes
 
 pub loop-preserved : goal.loop-preserved
 loop-preserved g c = record {
@@ -42,4 +42,4 @@ loop-preserved g c = record {
 pub returns-clause-lines : goal.returns-clause-lines
 returns-clause-lines g c = λ is.
     lines_at_end c.args.content c.args.each.now.reader.settings c.args.pointer.now (g.S.Source.remaining c.args.reader.now) (g.S.Source.remaining c.loop.reader) (g.W.Sink.contents c.args.writer.now) (g.W.Sink.contents c.loop.writer)
-    c.loop.each c.loop.sought (c.what_is_taken_is_due.ensures.due_by c.args.content) c.loop.invariant.settings c.loop.invariant.written
+    c.loop.each c.loop.sought (c.lines_taken_and_waiting.ensures.due_by c.args.content) c.loop.invariant.settings c.loop.invariant.written

@@ -65,7 +65,7 @@ fn sequences_by_two_workers_under_a_refused_growth(rt: HostRuntime) {
     check_sequences(&rt, rt.alloc(), 2)
 }
 
-// The call that takes no settings refuses each mark.
+// The call that takes no settings refuses each byte order mark.
 fn is_text_meant(call: TextCall, mark: FrontMark) -> bool {
     match call {
         TextCall::Plain => mark == FrontMark::Refused,
@@ -73,7 +73,7 @@ fn is_text_meant(call: TextCall, mark: FrontMark) -> bool {
     }
 }
 
-// Each call on each text by so many workers: one reads in one pass and by runs that are joined in a book, two read by runs.
+// Each call on each text by so many workers: one reads in one pass and by runs that are joined in an accumulator, two read by runs.
 fn check_texts<R: Abort + Env + Threads + Wait + Sync>(rt: &R, alloc: Global, count: u8) {
     let mut lines = Lines::of(rt);
     for (worked, mark, names) in &SETTLED_TEXTS {

@@ -1,4 +1,4 @@
-// Look-ups under refused growths.
+// Look-ups where an allocation fails.
 use crate::tests::answers::LookUp;
 use crate::tests::calls::{Asked, LookUps, index_of, pointer_of};
 use crate::tests::growths::check;
@@ -14,7 +14,7 @@ use test_memory_of_runs::lines::Lines;
 
 const REPEATED_HERE: LookUp = Err(FindFault::NameRepeated { token: 0 });
 
-// Texts, three pointers into each, and what they come to.
+// Texts, three pointers into each, and the answers to them.
 const LOOK_UPS: [(&[u8], [&str; 3], [LookUp; 3]); 5] = [
     (
         NESTED,

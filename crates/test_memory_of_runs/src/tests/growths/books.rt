@@ -1,4 +1,4 @@
-// Held runs, books and their workers under refused growths.
+// Runs in the hand of a worker, accumulators and their workers where an allocation fails.
 ghost use Rattle.std.specs.Prelude.{◌≡◌, ◌+◌, ◌<◌, ◌≤◌, IfSome, IfErr, false, length, vec_len};
 
 use crate::inputs::{FIVE_ROWS, NESTED, REPEATED, SEQUENCE, UNSORTED, WIDE};
@@ -46,7 +46,7 @@ enum Part {
     Joins,
     /// Every second one is put into a state.
     State,
-    /// Every second one is put into a book.
+    /// Every second one is put into an accumulator.
     Puts,
     /// One worker reads them all.
     Worker,
@@ -120,7 +120,7 @@ fn is_right_of<R: Wait>(
     }
 }
 
-// Where there is no memory for a run, for the book or for the claims, all of it is made again.
+// Where there is no memory for a run, for the accumulator or for the claims, all of it is made again.
 fn is_right_again<S: Likeness, R: Wait>(
     rt: &R,
     alloc: Global,
@@ -326,7 +326,7 @@ fn both_of<'a, S: Likeness>(
     }
 }
 
-/// Whether the run stands in the book then. Where it is refused, it comes back as it was, the share is as it was, and
+/// Whether the run stands in the accumulator then. Where it is refused, it comes back as it was, the share is as it was, and
 /// the same run is put again.
 fn is_put<'a, S: Likeness, P: Ledger, T: Ledger, R: Wait>(
     rt: &R,
@@ -368,7 +368,7 @@ fn is_put_again<'a, S: Likeness, P: Ledger, T: Ledger, R: Wait>(
     Ok(matches!(book.put(rt, share, run), Put::Stored))
 }
 
-/// Whether each second byte of a text is put into the book, for itself.
+/// Whether each second byte of a text is put into the accumulator, for itself.
 fn are_all_put<'a, S: Likeness, P: Ledger, T: Ledger, R: Wait>(
     rt: &R,
     alloc: Global,
@@ -388,7 +388,7 @@ fn are_all_put<'a, S: Likeness, P: Ledger, T: Ledger, R: Wait>(
     Ok(share.total_put() == count as u128 && share.total_taken() == 0)
 }
 
-/// Whether every second byte of a text stands in a book at its end, each put for itself.
+/// Whether every second byte of a text stands in an accumulator at its end, each put for itself.
 fn are_put<'a, S: Likeness, P: Ledger, T: Ledger, R: Wait>(
     rt: &R,
     alloc: Global,
@@ -412,7 +412,7 @@ fn are_put<'a, S: Likeness, P: Ledger, T: Ledger, R: Wait>(
     }
 }
 
-/// The runs of a book at its end, with its last share, if they are those of the text.
+/// The runs of an accumulator at its end, with its last share, if they are those of the text.
 fn closed_of<'a, S: Likeness, P: Ledger, T: Ledger>(
     book: Book<'a, S, P, T>,
     text: &'a [u8],
@@ -426,7 +426,7 @@ fn closed_of<'a, S: Likeness, P: Ledger, T: Ledger>(
     Ok(book.finish(text, Depth::default(), shares).ok())
 }
 
-/// Whether the book has every second byte of a text at its end.
+/// Whether the accumulator has every second byte of a text at its end.
 fn has_every_second<'a, S: Likeness, P: Ledger, T: Ledger>(
     alloc: Global,
     book: Book<'a, S, P, T>,
@@ -442,7 +442,7 @@ fn has_every_second<'a, S: Likeness, P: Ledger, T: Ledger>(
     }
 }
 
-/// The same, with blanks for the ledgers of a book.
+/// The same, with the `Blank`s of an accumulator's ledgers.
 fn are_put_by_one<S: Likeness, R: Wait>(
     rt: &R,
     alloc: Global,
@@ -456,7 +456,7 @@ fn are_put_by_one<S: Likeness, R: Wait>(
     are_put::<S, Brand, Brand, R>(rt, alloc, text, put, taken, workers)
 }
 
-/// Whether the run stands in the book then. Where its left neighbour may stand there, both are joined first.
+/// Whether the run stands in the accumulator then. Where its left neighbour may stand there, both are joined first.
 fn is_handed_over<'a, S: Likeness, P: Ledger, T: Ledger, R: Wait>(
     rt: &R,
     alloc: Global,
@@ -476,7 +476,7 @@ fn is_handed_over<'a, S: Likeness, P: Ledger, T: Ledger, R: Wait>(
     }
 }
 
-/// The run of a piece that a stopped worker drew.
+/// The run of a chunk that a stopped worker drew.
 fn run_of_piece<'a, S: Likeness>(
     alloc: Global,
     text: &'a [u8],
@@ -517,7 +517,7 @@ fn run_in<'a, S: Likeness>(
     }
 }
 
-/// Whether the book has one run then, over the whole of the text, like the one that reading it at once gives.
+/// Whether the accumulator has one run then, over the whole of the text, like the one that reading it at once gives.
 fn is_whole<'a, S: Likeness, P: Ledger, T: Ledger>(
     alloc: Global,
     book: Book<'a, S, P, T>,
@@ -545,7 +545,7 @@ fn is_one_run<S: Likeness>(
     }
 }
 
-/// What is in the hand of a worker that stopped for want of memory is put: the worker's share.
+/// What is in the hand of a worker that stopped when out of memory is put: the worker's share.
 fn share_behind_hand<'a, S: Likeness, P: Ledger, T: Ledger, R: Wait>(
     rt: &R,
     alloc: Global,
@@ -595,7 +595,7 @@ fn read_on<'a, S: Likeness, P: Ledger, T: Ledger, R: Wait>(
     }
 }
 
-/// What is in the hand of a worker that stopped for want of memory is put, and the worker goes on to its end: its
+/// What is in the hand of a worker that stopped when out of memory is put, and the worker goes on to its end: its
 /// share.
 fn share_of_stopped<'a, S: Likeness, P: Ledger, T: Ledger, R: Wait>(
     rt: &R,
@@ -675,7 +675,7 @@ fn is_read<'a, S: Likeness, P: Ledger, T: Ledger, R: Wait>(
     }
 }
 
-/// The same, with blanks for the ledgers of a book.
+/// The same, with the `Blank`s of an accumulator's ledgers.
 fn is_read_from<S: Likeness, R: Wait>(
     rt: &R,
     alloc: Global,
@@ -695,7 +695,7 @@ fn is_read_from<S: Likeness, R: Wait>(
     is_read::<S, Brand, Brand, R>(rt, alloc, text, cutting, claims, seat, put, taken, workers)
 }
 
-/// Whether one worker reads a text in these pieces.
+/// Whether one worker reads a text in these chunks.
 fn is_read_in_pieces<S: Likeness, R: Wait>(
     rt: &R,
     alloc: Global,
@@ -713,7 +713,7 @@ fn is_read_in_pieces<S: Likeness, R: Wait>(
     }
 }
 
-/// Whether one worker reads a text in pieces of a byte.
+/// Whether one worker reads a text in chunks of a byte.
 fn is_read_by_one<S: Likeness, R: Wait>(
     rt: &R,
     alloc: Global,

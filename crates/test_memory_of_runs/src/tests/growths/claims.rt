@@ -1,4 +1,4 @@
-// Claims and cuttings under refused growths.
+// Claims and divisions where an allocation fails.
 use crate::lines::Lines;
 use crate::tests::checks::assert_right;
 use jx_claim::{ClaimSeat, Claims, CutFault, Cutting};
@@ -31,7 +31,7 @@ fn cuttings_under_a_refused_growth(rt: HostRuntime) {
     }
 }
 
-// Whether claims on five pieces have a seat for each of so many workers.
+// Whether claims on five chunks have a worker handle for each of so many workers.
 fn has_seats(alloc: Global, count: u8) -> bool {
     let Some(workers) = Workers::new(count) else {
         return false;
@@ -42,7 +42,7 @@ fn has_seats(alloc: Global, count: u8) -> bool {
     }
 }
 
-// Whether these are so many seats, in order, of which none is spent.
+// Whether these are so many worker handles, in order, of which none is spent.
 fn are_unspent(seats: &[ClaimSeat], count: usize) -> bool {
     for (place, seat) in seats.iter().enumerate() {
         if seat.number() != place || seat.spent() {
@@ -52,13 +52,13 @@ fn are_unspent(seats: &[ClaimSeat], count: usize) -> bool {
     seats.len() == count
 }
 
-// Offsets at which 17 bytes are cut, and the pieces.
+// Offsets at which 17 bytes are cut, and the chunks.
 const CUTS: [(&[usize], &[(usize, usize)]); 2] = [
     (&[1, 5, 16], &[(0, 1), (1, 5), (5, 16), (16, 17)]),
     (&[6, 12], &[(0, 6), (6, 12), (12, 17)]),
 ];
 
-// Whether 17 bytes, cut at these offsets, have these pieces.
+// Whether 17 bytes, cut at these offsets, have these chunks.
 fn has_places(alloc: Global, cuts: &[usize], places: &[(usize, usize)]) -> bool {
     match cutting_at(alloc, 17, cuts) {
         Ok(cutting) => are_places(&cutting, places),
@@ -76,7 +76,7 @@ fn are_places(cutting: &Cutting, places: &[(usize, usize)]) -> bool {
     cutting.count() as usize == places.len()
 }
 
-// Claims on five pieces, asked for twice where they are refused.
+// Claims on five chunks, asked for twice where they are refused.
 fn claims_on_five(alloc: Global, workers: Workers) -> Result<(Claims, Vec<ClaimSeat>), AllocError> {
     match Claims::open(alloc, 5, workers) {
         Ok(opened) => Ok(opened),
@@ -84,7 +84,7 @@ fn claims_on_five(alloc: Global, workers: Workers) -> Result<(Claims, Vec<ClaimS
     }
 }
 
-// A cutting at these offsets, asked for twice where it is refused.
+// A division at these offsets, asked for twice where it is refused.
 fn cutting_at(alloc: Global, len: usize, cuts: &[usize]) -> Result<Cutting, CutFault> {
     match Cutting::at(alloc, len, cuts) {
         Err(CutFault::Memory) => Cutting::at(alloc, len, cuts),

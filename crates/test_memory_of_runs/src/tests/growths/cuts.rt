@@ -1,4 +1,4 @@
-// What is made of both sides of each cut of a text, joined under refused growths.
+// What is made of both sides of each cut of a text, joined where an allocation fails.
 ghost use Rattle.std.specs.Prelude.{◌≤◌, length};
 
 use crate::inputs::Worked;
@@ -10,11 +10,11 @@ use jx_run::{OutcomeRun, SeqRun, TextRun};
 use std::alloc::{AllocError, Global};
 use std::process::Abort;
 
-/// What is made of each side of a cut, and what the join has to come to.
+/// What is made of each side of a cut, and what the join has to be.
 #[derive(Clone, Copy)]
 pub(crate) enum Joined<'a> {
     Maps,
-    /// Structures of marks within a depth.
+    /// Structures of token starts within a depth.
     Reductions(u32, Whole),
     Texts(&'a Worked),
     Outcomes(&'a Worked),

@@ -1,4 +1,4 @@
-// Indexes and their shelf under refused growths.
+// Indexes and their shelf where an allocation fails.
 ghost use Rattle.std.specs.Prelude.{◌≡◌};
 
 use crate::inputs::Worked;

@@ -1,4 +1,4 @@
-// Chunk maps under refused growths.
+// Chunk maps where an allocation fails.
 ghost use Rattle.std.specs.Prelude.{◌≡◌, ◌≤◌, length};
 
 use crate::inputs::{FIVE_ROWS, NESTED, REPEATED, SEQUENCE, UNSORTED, WIDE};
@@ -27,7 +27,7 @@ fn is_next_end(ends: &mut Ends<'_>, end: Option<TokenEnd>, at: usize) -> bool {
     }
 }
 
-// Whether the next mark of a view is the one of a step at this offset, where it has one.
+// Whether the next token start of a view is the one of a step at this offset, where it has one.
 fn is_next_mark(marks: &mut Marks<'_>, kind: Option<MarkKind>, at: usize) -> bool {
     let Some(kind) = kind else {
         return true;
@@ -38,7 +38,7 @@ fn is_next_mark(marks: &mut Marks<'_>, kind: Option<MarkKind>, at: usize) -> boo
     }
 }
 
-// The exit of reading these bytes one by one, where the marks and ends are those that it gives, in order.
+// The exit of reading these bytes one by one, where the token starts and ends are those that it gives, in order.
 fn plain_exit(
     marks: &mut Marks<'_>,
     ends: &mut Ends<'_>,

@@ -1,4 +1,4 @@
-// Structures of marks and known stacks under refused growths.
+// Structures of token starts and known stacks where an allocation fails.
 ghost use Rattle.std.specs.Prelude.{◌≤◌, ◌<◌, ◌+◌, IfOk, OnOk, length};
 ghost use Rattle.jx_reduce.specs.Offsets.{EachIn, RisingFrom};
 
@@ -17,7 +17,7 @@ const ENDED: Whole = Whole::Went {
     open: 0,
 };
 
-// An input, a depth, and what its marks come to within it.
+// An input, a depth, and the outcome of its token starts within it.
 type Input = (&'static [u8], u32, Whole);
 
 const INPUTS: [Input; 7] = [
@@ -56,14 +56,14 @@ fn stops_again(alloc: Global, count: usize) -> Result<bool, AllocError> {
     }
 }
 
-// Whether so many opening marks, and a closing one that fits none of them, stop at the last one.
+// Whether so many opening token starts, and a closing one that fits none of them, stop at the last one.
 fn stops_at_unfitting(alloc: Global, count: usize) -> Result<bool, AllocError> {
     let mut stack = KnownStack::new(alloc, Depth::default());
     push_unfitting(&mut stack, count)?;
     Ok(stack.whole() == Whole::Stopped(count))
 }
 
-// So many opening marks, and the closing one. An opening mark that is refused is given again.
+// So many opening token starts, and the closing one. An opening token start that is refused is given again.
 fn push_unfitting(stack: &mut KnownStack, count: usize) -> Result<(), AllocError> {
     for at in 0..count {
         push_again(stack, mark(MarkKind::OpenArray, at))?;
@@ -71,7 +71,7 @@ fn push_unfitting(stack: &mut KnownStack, count: usize) -> Result<(), AllocError
     stack.push(mark(MarkKind::CloseObject, count))
 }
 
-// One more mark, given again where it is refused.
+// One more token start, given again where it is refused.
 fn push_again(stack: &mut KnownStack, mark: Mark) -> Result<(), AllocError> {
     match stack.push(mark) {
         Ok(()) => Ok(()),
@@ -79,7 +79,7 @@ fn push_again(stack: &mut KnownStack, mark: Mark) -> Result<(), AllocError> {
     }
 }
 
-/// Whether the joined structure of the marks before an offset and behind it is what it has to be.
+/// Whether the joined structure of the token starts before an offset and after it is what it has to be.
 pub(crate) fn is_right_at(
     alloc: Global,
     text: &[u8],
@@ -110,7 +110,7 @@ fn is_joined_so(
     }
 }
 
-// Whether a structure is what it has to be: its whole, its copy, and what it comes to over open containers.
+// Whether a structure is what it has to be: its whole, its copy, and where it leads over open containers.
 fn is_right(
     alloc: Global,
     both: &Reductions,
@@ -134,7 +134,7 @@ fn acts_by_the_table(alloc: Global, all: &Reductions, marks: &[Mark]) -> Result<
     comes_to(all, &HOLDER_LISTS, &wanted)
 }
 
-/// The marks of a text. A byte that can't go on, as a separator, begins anew.
+/// The token starts of a text. A byte that can't go on, as a separator, begins anew.
 fn marks_in(alloc: Global, text: &[u8]) -> Result<Vec<Mark>, AllocError>
     ensures { IfOk result (λ marks. RisingFrom 0 marks.items) }
 {
@@ -148,7 +148,7 @@ fn marks_in(alloc: Global, text: &[u8]) -> Result<Vec<Mark>, AllocError>
     Ok(marks)
 }
 
-/// Adds a mark of this kind, if there is one, behind those that stand before its offset.
+/// Adds a token start of this kind, if there is one, after those that are before its offset.
 fn add_mark(marks: &mut Vec<Mark>, kind: Option<MarkKind>, at: usize) -> Result<(), AllocError>
     requires rising { RisingFrom 0 marks.old.items }
     requires before { EachIn (λ m. (0 ≤ m.at) × (m.at < at)) marks.old.items }
@@ -161,7 +161,7 @@ fn add_mark(marks: &mut Vec<Mark>, kind: Option<MarkKind>, at: usize) -> Result<
     Ok(())
 }
 
-/// How many of these marks stand before an offset.
+/// How many of these token starts are before an offset.
 fn count_before(marks: &[Mark], at: usize) -> usize
     ensures { result ≤ length marks.now }
 {

@@ -1,4 +1,4 @@
-// Runs of texts and of sequences under refused growths.
+// Runs of texts and of sequences where an allocation fails.
 ghost use Rattle.std.specs.Prelude.{◌≡◌, ◌≤◌, length};
 
 use crate::inputs::{SEQUENCE, Worked};

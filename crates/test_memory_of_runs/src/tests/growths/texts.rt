@@ -1,4 +1,4 @@
-// What is made of each text that was worked out, under refused growths.
+// What is made of each text that was worked out, where an allocation fails.
 use crate::inputs::{TEXTS, Worked};
 use crate::lines::Lines;
 use crate::tests::checks::assert_right;

@@ -1,4 +1,4 @@
-// Lists of marks, given and drawn, are read as by the table, made at once and joined at each place.
+// Lists of token starts, given and random ones, are read as by the table, made at once and joined at each place.
 use crate::tests::checks::assert_right;
 use crate::tests::marks::chance::{BYTES, Chance};
 use crate::tests::marks::drawn::Drawn;
@@ -71,7 +71,7 @@ fn check<R: Abort>(rt: &R, alloc: Global, text: &[u8]) {
     }
 }
 
-// Marks by chance, of which most are allowed where they stand.
+// Token starts by chance, of which most are allowed where they stand.
 fn text_by_chance(alloc: Global, chance: &mut Chance, len: usize) -> Result<Vec<u8>, AllocError> {
     let mut drawn = Drawn::new(alloc, EXPECTS[chance.below(6)]);
     for _ in 0..len {
@@ -80,7 +80,7 @@ fn text_by_chance(alloc: Global, chance: &mut Chance, len: usize) -> Result<Vec<
     Ok(drawn.into_text())
 }
 
-// One more mark by chance. Behind a fault anything may stand.
+// One more token start by chance. After a fault anything may stand.
 fn add_by_chance(drawn: &mut Drawn, chance: &mut Chance) -> Result<(), AllocError> {
     let around = [Holder::Array, Holder::Object][chance.below(2)];
     let (expect, top) = (drawn.expect(), drawn.top(around));
@@ -90,7 +90,7 @@ fn add_by_chance(drawn: &mut Drawn, chance: &mut Chance) -> Result<(), AllocErro
     drawn.add(byte, then)
 }
 
-// Of four marks by chance the first that is allowed here, or else the last.
+// Of four token starts by chance the first that is allowed here, or else the last.
 fn mostly_allowed(chance: &mut Chance, expect: Expect, top: Holder) -> u8 {
     let mut byte = BYTES[chance.below(8)];
     for _ in 0..3 {

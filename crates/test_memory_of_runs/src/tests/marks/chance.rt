@@ -1,4 +1,4 @@
-// What lists of marks are drawn from.
+// The source of random lists of token starts.
 ghost use Rattle.std.specs.Prelude.{◌<◌};
 
 pub(crate) const BYTES: [u8; 8] = [b'[', b']', b'{', b'}', b':', b',', b's', b'n'];

@@ -1,10 +1,10 @@
-// A list of marks while it is drawn, one mark at a time.
+// A random list of token starts while it is made, one token start at a time.
 use crate::tests::marks::lists::kind_of;
 use jx_reduce::{Expect, Holder, next};
 use std::alloc::{AllocError, Global};
 use test_words::follow;
 
-/// The bytes of the marks, what may stand behind them, and the containers that they leave open.
+/// The bytes of the token starts, what may follow them, and the containers that they leave open.
 #[derive(Drop)]
 pub(crate) struct Drawn {
     text: Vec<u8>,
@@ -13,7 +13,7 @@ pub(crate) struct Drawn {
 }
 
 impl Drawn {
-    /// No marks, with this expectation behind them.
+    /// No token starts, with this expectation after them.
     pub(crate) fn new(alloc: Global, expect: Expect) -> Drawn {
         Drawn {
             text: Vec::new(alloc),
@@ -37,14 +37,14 @@ impl Drawn {
         self.open.len()
     }
 
-    /// One more mark, behind which this may stand.
+    /// One more token start, after which this may stand.
     pub(crate) fn add(&mut self, byte: u8, then: Expect) -> Result<(), AllocError> {
         self.text.push(byte)?;
         self.expect = then;
         follow(&mut self.open, kind_of(byte))
     }
 
-    /// One more mark. At a fault the list goes on as if the mark were not there.
+    /// One more token start. At a fault the list goes on as if it were not there.
     pub(crate) fn try_add(&mut self, byte: u8, around: Holder) -> Result<(), AllocError> {
         match next(kind_of(byte), self.expect, self.top(around)) {
             Some(then) => self.add(byte, then),
@@ -52,7 +52,7 @@ impl Drawn {
         }
     }
 
-    /// The bytes of the marks.
+    /// The bytes of the token starts.
     pub(crate) fn into_text(self) -> Vec<u8> {
         self.text
     }

@@ -1,4 +1,4 @@
-// Known stacks beside reductions, over long drawn lists and over nesting that goes on across the ends of words.
+// Known stacks beside reductions, over long random lists and over nesting that goes on across the ends of words.
 ghost use Rattle.std.specs.Prelude.{◌<◌};
 ghost use Rattle.jx_reduce.specs.Offsets.{RisingFrom};
 
@@ -64,13 +64,13 @@ fn check_within_each<R: Abort>(rt: &R, alloc: Global, text: &[u8], count: u32) {
     }
 }
 
-// A list of marks, the depth within which it is read, and what it comes to where that is known.
+// A list of token starts, the depth within which it is read, and its outcome where that is known.
 fn check<R: Abort>(rt: &R, alloc: Global, text: &[u8], containers: u32, whole: Option<Whole>) {
     let answer = is_as_reduced(alloc, text, depth_of(containers), whole);
     assert_right(rt, answer, text, containers as usize);
 }
 
-// Whether a known stack comes to what is known, and to what reductions come to.
+// Whether a known stack has the outcome that is known, and that of reductions.
 fn is_as_reduced(
     alloc: Global,
     text: &[u8],
@@ -90,7 +90,7 @@ fn whole_of(alloc: Global, marks: &[Mark], depth: Depth) -> Result<Whole, AllocE
     Ok(all.entry(Expect::Value).whole())
 }
 
-// Whether a known stack comes to this, over slices and one by one.
+// Whether a known stack has this outcome, over slices and one by one.
 fn stack_comes_to(
     alloc: Global,
     marks: &[Mark],
@@ -119,8 +119,8 @@ fn push_each(stack: &mut KnownStack, marks: &[Mark]) -> Result<(), AllocError> {
     Ok(())
 }
 
-// A list that sinks by long stretches and rises again. Once in so many its mark is any; at a fault the list goes on as
-// if the mark were not there.
+// A list that sinks by long runs and rises again. Once in so many its token start is any; at a fault the list goes on as
+// if that token start were not there.
 fn drawn(alloc: Global, seed: u64, faults: usize) -> Result<Vec<u8>, AllocError>
     requires { 0 < faults }
 {
@@ -156,7 +156,7 @@ fn value(chance: &mut Chance, scalars: usize) -> u8
     if is_first { first } else { second }
 }
 
-// A byte whose mark may stand here; while it sinks, few containers are closed.
+// A byte whose token start may stand here; while it sinks, few containers are closed.
 fn allowed(chance: &mut Chance, expect: Expect, top: Holder, sinks: bool) -> u8 {
     let closes = if sinks {
         chance.below(9) == 0
@@ -174,7 +174,7 @@ fn allowed(chance: &mut Chance, expect: Expect, top: Holder, sinks: bool) -> u8 
     }
 }
 
-// A byte whose mark may stand behind a value.
+// A byte whose token start may follow a value.
 fn behind_value(chance: &mut Chance, top: Holder, closes: bool) -> u8 {
     match top {
         Holder::Bottom => any(chance),

@@ -1,4 +1,4 @@
-// Marks and their structures.
+// Token starts and their structures.
 ghost use Rattle.std.specs.Prelude.{◌≡◌, ◌≤◌, IfOk, length};
 ghost use Rattle.jx_reduce.specs.Offsets.{RisingFrom};
 
@@ -7,7 +7,7 @@ use jx_reduce::{Holder, Reduced, Reductions};
 use std::alloc::{AllocError, Global};
 use test_words::{EXPECTS, Maker, parts_of};
 
-/// The mark of this kind at an offset.
+/// The token start of this kind at an offset.
 pub(crate) fn mark(kind: MarkKind, at: usize) -> Mark
     ensures { result ≡ record { kind = kind; at = at } }
 {
@@ -21,12 +21,12 @@ pub(crate) fn depth_of(containers: u32) -> Depth
     Depth::new(containers).unwrap_or_default()
 }
 
-/// The kind of mark that this byte stands for.
+/// The kind of token start that this byte stands for.
 pub(crate) fn kind_of(byte: u8) -> MarkKind {
     test_words::kind_of(byte).unwrap_or(MarkKind::Number)
 }
 
-/// The marks that these bytes stand for, each at the place of its byte.
+/// The token starts that these bytes stand for, each at the place of its byte.
 pub(crate) fn marks_of(alloc: Global, text: &[u8]) -> Result<Vec<Mark>, AllocError>
     ensures { IfOk result (λ marks. RisingFrom 0 marks.items) }
 {

@@ -1,4 +1,4 @@
-// Structures of lists of marks beside what the table of moves makes of them, made at once and joined at each place.
+// Structures of lists of token starts beside what the table of moves makes of them, made at once and joined at each place.
 ghost use Rattle.std.specs.Prelude.{◌≤◌, length};
 ghost use Rattle.jx_reduce.specs.Offsets.{RisingFrom};
 
@@ -8,7 +8,7 @@ use jx_reduce::{Outcome, Reductions};
 use std::alloc::{AllocError, Global};
 use test_words::{HOLDER_LISTS, Maker, all_by_table, comes_to};
 
-/// Whether the structure of these marks answers as the table does, from each expectation and over each list of at most three
+/// Whether the structure of these token starts answers as the table does, from each expectation and over each list of at most three
 /// containers, made at once and joined at each place.
 pub(crate) fn is_as_read_at_each_cut(
     alloc: Global,

@@ -1,4 +1,4 @@
-// Reducers that are given long lists of marks one by one, beside the table of moves read one mark at a time.
+// Reducers that are given long lists of token starts one by one, beside the table of moves read one token start at a time.
 ghost use Rattle.std.specs.Prelude.{◌<◌};
 
 use crate::tests::checks::assert_right;
@@ -12,7 +12,7 @@ use std::process::Abort;
 use std::test::Fail;
 use test_words::{EXPECTS, Maker};
 
-// So long that most marks are quiet.
+// So long that most token starts are quiet.
 const LONG: usize = 1100;
 
 #[test]
@@ -45,7 +45,7 @@ fn check<R: Abort>(rt: &R, alloc: Global, text: &[u8], containers: u32) {
     assert_right(rt, answer, text, containers as usize);
 }
 
-// Long lists with a fault in so many marks.
+// Long lists with a fault in so many token starts.
 fn check_with_faults<R: Abort>(
     rt: &R,
     alloc: Global,
@@ -68,7 +68,7 @@ fn check_strings<R: Abort>(rt: &R, alloc: Global, count: usize) -> Result<(), Al
     Ok(())
 }
 
-// Strings in front of marks that may stand where they do from this expectation on.
+// Strings in front of token starts that may stand where they do from this expectation on.
 fn check_behind_strings<R: Abort>(
     rt: &R,
     alloc: Global,
@@ -82,7 +82,7 @@ fn check_behind_strings<R: Abort>(
     Ok(())
 }
 
-// Adds many marks that may stand where they do from this expectation on.
+// Adds many token starts that may stand where they do from this expectation on.
 fn add_long(
     text: &mut Vec<u8>,
     alloc: Global,
@@ -93,8 +93,8 @@ fn add_long(
     Ok(text.extend_from_slice(&marks)?)
 }
 
-/// Marks that may stand where they do from this expectation on, but once in so many any mark. At a fault the list goes
-/// on as if the mark were not there, so that it has many more behind the first one.
+/// Token starts that may stand where they do from this expectation on, but once in so many any token start. At a fault the list goes
+/// on as if that token start were not there, so that it has many more after the first one.
 fn long_by_chance(
     alloc: Global,
     chance: &mut Chance,
@@ -123,7 +123,7 @@ fn long_by_chance(
     Ok(drawn.into_text())
 }
 
-// A mark that may stand here, with no more containers open than so many, and none closed that was open at entry.
+// A token start that may stand here, with no more containers open than so many, and none closed that was open at entry.
 fn fitting(chance: &mut Chance, expect: Expect, top: Holder, open: usize, most: usize) -> u8 {
     for _ in 0..64 {
         let byte = BYTES[chance.below(8)];

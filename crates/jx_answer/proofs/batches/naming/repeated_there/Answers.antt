@@ -20,11 +20,11 @@ returns-in-Ok c =
     let least = IfOk-at_ok (λ (name : Option ℕ). (limit : ℕ) (tree : Tree) → IsText bytes 0 (length bytes) limit tree → IsLeast (IsRepeat bytes (rows tree)) name) c.in-Ok.is c.in_ok-read.ensures.name in
     λ input end tree stands fits d.
     subst (λ (name : Option ℕ). IsLeast (IsRepeat input (rows tree)) name) (sym c.name_behind.ensures)
-    (repeats_there c.text_has_one_tree.ensures.one_tree c.args.at end depth input bytes c.in-Ok.name judged least stands fits tree d)
+    (repeats_there c.unique_tree.ensures.one_tree c.args.at end depth input bytes c.in-Ok.name judged least stands fits tree d)
 
 pub returns-in-Err : goal.returns-in-Err
 returns-in-Err c =
     let bytes = c.args.bytes.now in
     let depth = c.args.depth in
     let judged = IfErr-at_err (λ (r : Refusal). Judged 0 (slice_range bytes 0 (length bytes)) depth (Refused r)) c.in-Err.is c.in_ok-read.ensures.refused in
-    λ input end tree stands fits d. absurd (never_refused c.reader_is_grammar.ensures.sound c.reader_is_grammar.ensures.complete c.args.at depth bytes _ judged tree d)
+    λ input end tree stands fits d. absurd (never_refused c.reader_and_grammar.ensures.sound c.reader_and_grammar.ensures.complete c.args.at depth bytes _ judged tree d)

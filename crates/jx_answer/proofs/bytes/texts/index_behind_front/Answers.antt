@@ -11,7 +11,7 @@ returns-in_ok-rest-in-Skip g c =
     let settings = c.args.settings.now in
     let rest = c.in_ok-rest-in-Skip in
     let count = c.in-Skip.count in
-    let law = c.indexes_stand_behind_fronts.ensures in
+    let law = c.index_behind_a_front.ensures in
     record {
       answer = IfOk-weaker c.index_rest.result (λ (a : TextAnswer). IsAnswerFrom rest.rest.front text settings.depth a) (λ (a : TextAnswer). IsReadBy settings text a)
           (λ a h. behind_answer settings text count (λ i k. law.index settings text count i (sym c.in-Skip.ensures.value) k) (λ v k. law.verdict settings text count v (sym c.in-Skip.ensures.value) k) a

@@ -1,6 +1,6 @@
 use Rattle.std.proofs.Common.{refl, subst}
-use Rattle.jx_saved.specs.declared.index.Index.{Index}
-use Rattle.jx_walk.specs.Paused.{HasPaused}
+use Rattle.jx_file_index.specs.declared.index.Index.{Index}
+use Rattle.jx_file_query.specs.PausedWalks.{HasPaused}
 use Rattle.jx_c.proofs.saving.opened.begun.Goals as goal
 
 pub returns : goal.returns

@@ -1,9 +1,9 @@
 use Rattle.std.proofs.Common.{◌≡◌, Some, slice_range, subst, sym, ap, ◌∙◌}
 use Rattle.std.proofs.lemmas.Result.{IfErr-at_err, IfOk-at_ok}
 use Rattle.jx_summary.specs.declared.span.Span.{Span}
-use Rattle.jx_saved.specs.declared.index.Index.{Index}
-use Rattle.jx_split.specs.declared.split.PausedSplit.{PausedSplit}
-use Rattle.jx_split.specs.Paused.{HasPaused}
+use Rattle.jx_file_index.specs.declared.index.Index.{Index}
+use Rattle.jx_file_query.specs.declared.split.PausedSplit.{PausedSplit}
+use Rattle.jx_file_query.specs.PausedSplits.{HasPaused}
 use Rattle.jx_c.proofs.Opening.{split_led}
 use Rattle.jx_c.proofs.saving.opened.give_to_split.Goals as goal
 

@@ -1,8 +1,8 @@
 use Rattle.std.proofs.Common.{◌≡◌, Some, slice_range, subst, sym, ◌∙◌}
 use Rattle.std.proofs.lemmas.Result.{IfErr-at_err, IfOk-at_ok}
 use Rattle.jx_summary.specs.declared.span.Span.{Span}
-use Rattle.jx_saved.specs.declared.index.Index.{Index}
-use Rattle.jx_walk.specs.Paused.{HasPaused}
+use Rattle.jx_file_index.specs.declared.index.Index.{Index}
+use Rattle.jx_file_query.specs.PausedWalks.{HasPaused}
 use Rattle.jx_c.proofs.Opening.{walk_led}
 use Rattle.jx_c.proofs.saving.opened.give_to_walk.Goals as goal
 

@@ -1,9 +1,9 @@
 use Rattle.std.proofs.Common.{rules, ◌≡◌, List, length, subst, sym, ap, ◌∙◌}
 use Rattle.std.proofs.lemmas.Result.{IfErr-at_err, IfOk-at_ok}
-use Rattle.jx_split.specs.declared.cutting.Aim.{Aim}
-use Rattle.jx_split.specs.declared.part.ContainerPart.{ContainerPart}
-use Rattle.jx_split.specs.declared.split.PausedSplit.{PausedSplit}
-use Rattle.jx_split.specs.Parts.{parts_of}
+use Rattle.jx_file_query.specs.declared.cutting.Aim.{Aim}
+use Rattle.jx_file_query.specs.declared.part.ContainerPart.{ContainerPart}
+use Rattle.jx_file_query.specs.declared.split.PausedSplit.{PausedSplit}
+use Rattle.jx_file_query.specs.Parts.{parts_of}
 use Rattle.jx_c.specs.Buffers.{IsFilled}
 use Rattle.jx_c.specs.Opened.{shown_part}
 use Rattle.jx_c.proofs.saving.opened.parts_of.Goals as goal

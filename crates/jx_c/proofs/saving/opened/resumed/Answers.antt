@@ -1,8 +1,8 @@
 use Rattle.std.specs.Prelude.{Option}
 use Rattle.std.proofs.Common.{subst, ◌∙◌}
 use Rattle.std.proofs.lemmas.Result.{IfOk-weaker}
-use Rattle.jx_name_tables.specs.declared.tables.NameTables.{NameTables}
-use Rattle.jx_saved_names.specs.Fed.{KeepsNames}
+use Rattle.jx_file_index.specs.declared.name_tables.NameTables.{NameTables}
+use Rattle.jx_file_build.specs.FedNames.{KeepsNames}
 use Rattle.jx_c.proofs.saving.opened.resumed.Goals as goal
 
 pub returns-in-Some-clause-index : goal.returns-in-Some-clause-index

@@ -8,4 +8,4 @@ use Rattle.jx_c.proofs.streams.states.number_of.Goals as goal
 pub returns : goal.returns
 returns c =
     let state = c.args.state in
-    ap state_in c.number.ensures.ordinal ∙ get_or_from_slice_get all_states (ordinal state) state Gap (c.states_stand_in_order.ensures.state state)
+    ap state_in c.number.ensures.ordinal ∙ get_or_from_slice_get all_states (ordinal state) state Gap (c.state_ordinals.ensures.state state)

@@ -9,4 +9,4 @@ returns-in-Any c =
     let text = c.args.text.now in
     let settings = c.args.settings.now in
     IfOk-weaker c.verdict_with_any_names.result (λ (v : Verdict). JudgedBy settings 0 text v) (λ (v : Verdict). IsVerdictBy settings text v)
-    (λ v h. (c.names_are_refused_by_rows.ensures.any settings text v c.in-Any.is).1 h) c.verdict_with_any_names.ensures
+    (λ v h. (c.repeated_name_by_rows.ensures.any settings text v c.in-Any.is).1 h) c.verdict_with_any_names.ensures

@@ -5,7 +5,7 @@ use Rattle.jx_c.proofs.texts.index.led.Goals as goal
 pub returns-in-Ok : goal.returns-in-Ok
 returns-in-Ok c = λ limit tree t.
     let text = c.args.index.now.text in
-    found_at text tree c.args.pointer.now c.in-Ok.node c.row-row.result.now (λ node e. c.look_ups_end_at_rows.ensures.led text tree (tokens c.args.pointer.now) node e)
+    found_at text tree c.args.pointer.now c.in-Ok.node c.row-row.result.now (λ node e. c.rows_of_look_ups.ensures.led text tree (tokens c.args.pointer.now) node e)
     (c.in-Ok.ensures.leads limit tree t) (c.row-row.ensures.tree limit tree t)
 
 pub returns-in-Err : goal.returns-in-Err

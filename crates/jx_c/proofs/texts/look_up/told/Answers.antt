@@ -10,5 +10,5 @@ pub returns-in-Ok : goal.returns-in-Ok
 returns-in-Ok c = λ settings text pointer spelt told.
     let h : IsFoundBy settings text pointer (Ok c.in-Ok.found) = subst (λ (r : Result (Result Found FindFault) Refusal). IsFoundBy settings text pointer r) c.in-Ok.is told in
     let x = h.1 in
-    let none = none_refused c.text_by_settings_has_one_tree.ensures.one_tree settings text x.tree x.is_text h.0 in
+    let none = none_refused c.unique_tree_by_settings.ensures.one_tree settings text x.tree x.is_text h.0 in
     in_bytes text x.tree pointer settings x.is_text none spelt c.look_up_of.result (c.look_up_of.ensures text x.tree pointer x.found_is)

@@ -14,4 +14,4 @@ returns-clause-taken c =
     let is = c.in_ok-path.ensures ∙ ap tokens c.as_bytes.ensures.value in
     subst (λ (r : List ℕ). HasTakenBy c.args.content pointer [] [] (record { reader = reader; path = path; content = c.args.content; stand = Some c.stand_at_start.result; ready = r; part = c.new-3.result.items })) (sym c.new-2.ensures.items)
     (subst (λ (p : List ℕ). HasTakenBy c.args.content pointer [] [] (record { reader = reader; path = path; content = c.args.content; stand = Some c.stand_at_start.result; ready = []; part = p })) (sym c.new-3.ensures.items)
-    (starts c.args.content reader path pointer c.stand_at_start.result _ c.new.ensures.reads c.new.ensures.start is c.stand_at_start.ensures (c.reader_is_grammar.ensures.by_settings reader.settings 0 [])))
+    (starts c.args.content reader path pointer c.stand_at_start.result _ c.new.ensures.reads c.new.ensures.start is c.stand_at_start.ensures (c.reader_and_grammar.ensures.by_settings reader.settings 0 [])))

@@ -22,10 +22,10 @@ returns-in-On-clause-reached c =
 
 pub returns-in-Stopped-clause-reached : goal.returns-in-Stopped-clause-reached
 returns-in-Stopped-clause-reached c =
-    stopped_at c.reader_is_grammar.ensures.first_fault c.args.depth c.args.start c.args.chunks.now c.args.number c.in-Stopped.at c.args.offset c.saturating_add.result c.requires.number
+    stopped_at c.reader_and_grammar.ensures.first_fault c.args.depth c.args.start c.args.chunks.now c.args.number c.in-Stopped.at c.args.offset c.saturating_add.result c.requires.number
     c.requires.walked c.requires.fits (sym (ap reading_in c.in-Stopped.is) ∙ c.in_ok-led.ensures.reads) c.requires.offset (omega arith)
 
 pub returns-in-TooDeep-clause-reached : goal.returns-in-TooDeep-clause-reached
 returns-in-TooDeep-clause-reached c =
-    too_deep_at c.reader_is_grammar.ensures.first_fault c.args.depth c.args.start c.args.chunks.now c.args.number c.in-TooDeep.at c.args.offset c.saturating_add-in-TooDeep.result c.requires.number
+    too_deep_at c.reader_and_grammar.ensures.first_fault c.args.depth c.args.start c.args.chunks.now c.args.number c.in-TooDeep.at c.args.offset c.saturating_add-in-TooDeep.result c.requires.number
     c.requires.walked c.requires.fits (sym (ap reading_in c.in-TooDeep.is) ∙ c.in_ok-led.ensures.reads) c.requires.offset (omega arith)

@@ -62,6 +62,6 @@ returns-in-Some-clause-verdict c =
 pub returns-clause-verdict : goal.returns-clause-verdict
 returns-clause-verdict c =
     subst (Judged c.args.start (text_of c.args.chunks.now) c.args.depth) (sym c.verdict_behind.ensures)
-    (judged_end c.reader_is_grammar.ensures.verdict c.args.depth c.args.start c.loop-group.chunks c.args.chunks.now (c.loop-group.group * 64) (place_behind origin c.loop-group.chunks)
+    (judged_end c.reader_and_grammar.ensures.verdict c.args.depth c.args.start c.loop-group.chunks c.args.chunks.now (c.loop-group.group * 64) (place_behind origin c.loop-group.chunks)
     c.loop-group.invariant.same (omega (arith, c.loop-group.invariant.sums_are.covers)) c.loop-group.invariant.walked
     (ap (place_behind origin) (sym (take_all (c.loop-group.group * 64) c.loop-group.chunks (omega (arith, c.loop-group.invariant.sums_are.covers))))))

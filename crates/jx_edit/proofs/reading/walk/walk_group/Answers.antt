@@ -31,13 +31,13 @@ loop-number-preserved c = record {
 
 pub returns-in-Stopped-clause-refused : goal.returns-in-Stopped-clause-refused
 returns-in-Stopped-clause-refused c =
-    judged_at c.reader_is_grammar.ensures.verdict c.args.depth c.args.start c.go_on.new.chunks c.args.chunks.now (c.loop-number.number + 1) (stopped c.in-Stopped.at)
+    judged_at c.reader_and_grammar.ensures.verdict c.args.depth c.args.start c.go_on.new.chunks c.args.chunks.now (c.loop-number.number + 1) (stopped c.in-Stopped.at)
     (c.in_ok-step.ensures.bytes ∙ c.loop-number.invariant.same) refl
     (subst (IsReached c.args.depth c.args.start (c.loop-number.number + 1) c.go_on.new.chunks) c.in-Stopped.is c.in_ok-step.ensures.reached)
 
 pub returns-in-TooDeep-clause-refused : goal.returns-in-TooDeep-clause-refused
 returns-in-TooDeep-clause-refused c =
-    judged_at c.reader_is_grammar.ensures.verdict c.args.depth c.args.start c.go_on.new.chunks c.args.chunks.now (c.loop-number.number + 1) (too_deep c.in-TooDeep.at)
+    judged_at c.reader_and_grammar.ensures.verdict c.args.depth c.args.start c.go_on.new.chunks c.args.chunks.now (c.loop-number.number + 1) (too_deep c.in-TooDeep.at)
     (c.in_ok-step.ensures.bytes ∙ c.loop-number.invariant.same) refl
     (subst (IsReached c.args.depth c.args.start (c.loop-number.number + 1) c.go_on.new.chunks) c.in-TooDeep.is c.in_ok-step.ensures.reached)
 

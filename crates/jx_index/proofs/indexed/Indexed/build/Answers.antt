@@ -11,7 +11,7 @@ nodes_from_marks-requires c =
 pub of_nodes-requires : goal.of_nodes-requires
 of_nodes-requires c =
     let t = accepted_tree c.args.text.now c.args.started.now c.requires.reading c.requires.accepted in
-    let b = built_here c.args.text.now c.args.started.now c.requires.reading (record { reads = c.tokens_are_read.ensures.reads; stays = c.tokens_are_read.ensures.stays }) c.marks.result.now c.ends.result.now c.span-span.result.end c.args.started.now.depth t.tree
+    let b = built_here c.args.text.now c.args.started.now c.requires.reading (record { reads = c.grammar_of_tokens.ensures.reads; stays = c.grammar_of_tokens.ensures.stays }) c.marks.result.now c.ends.result.now c.span-span.result.end c.args.started.now.depth t.tree
     c.marks.ensures.marks c.ends.ensures.ends (ap (λ (s : Span). s.end) c.span-span.ensures.span) t.is in
     record {
       limit = c.args.started.now.depth;
@@ -25,5 +25,5 @@ pub returns-clause-rows : goal.returns-clause-rows
 returns-clause-rows c = λ limit tree t.
     c.in_ok-index.ensures.rows
     ∙ c.in_ok-nodes.ensures.rows
-    ∙ (built_here c.args.text.now c.args.started.now c.requires.reading (record { reads = c.tokens_are_read.ensures.reads; stays = c.tokens_are_read.ensures.stays }) c.marks.result.now c.ends.result.now c.span-span.result.end limit tree
+    ∙ (built_here c.args.text.now c.args.started.now c.requires.reading (record { reads = c.grammar_of_tokens.ensures.reads; stays = c.grammar_of_tokens.ensures.stays }) c.marks.result.now c.ends.result.now c.span-span.result.end limit tree
     c.marks.ensures.marks c.ends.ensures.ends (ap (λ (s : Span). s.end) c.span-span.ensures.span) t).rows_are

@@ -24,7 +24,7 @@ invariant_of-result c = (
     rows_are = c.requires.rows_are;
     after_are = c.requires.after_are;
     one_tree = λ most other t.
-        one_of_any c.text_has_one_tree.ensures.one_tree c.args.span.start c.requires.limit most (slice_range c.args.text.now c.args.span.start c.args.span.end) c.requires.tree other c.requires.is_text t;
+        one_of_any c.unique_tree.ensures.one_tree c.args.span.start c.requires.limit most (slice_range c.args.text.now c.args.span.start c.args.span.end) c.requires.tree other c.requires.is_text t;
     starts_are = c.in_ok-lists.ensures.starts ∙ ap (λ (r : List Row). length r + 1) c.deref.ensures.value;
     lists =
         subst (λ (r : List Row). HaveChildLists c.args.text.now r c.args.nodes.after.items c.in_ok-lists.lists.starts.items c.in_ok-lists.lists.children.items (length r)) c.deref.ensures.value

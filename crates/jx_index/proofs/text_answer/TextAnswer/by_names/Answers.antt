@@ -22,7 +22,7 @@ returns-in-None c = record {
       let refused : RefusesName settings.names index.text index.rows None =
       subst (λ (rule : NameRule). RefusesName rule index.text index.rows None) (sym is)
       (subst (λ (name : Option ℕ). RefusesName c.args.rule index.text index.rows name) c.in-None.is c.refused_name.ensures.name) in
-      (a_text k.1.is_text (c.names_are_refused_by_rows.ensures.name settings text index None k.1 refused), k.1);
+      (a_text k.1.is_text (c.repeated_name_by_rows.ensures.name settings text index None k.1 refused), k.1);
 }
 
 pub returns : goal.returns
@@ -34,5 +34,5 @@ returns c = record {
       let refused : RefusesName settings.names index.text index.rows (Some at) =
       subst (λ (rule : NameRule). RefusesName rule index.text index.rows (Some at)) (sym is)
       (subst (λ (name : Option ℕ). RefusesName c.args.rule index.text index.rows name) c.in-Some.is c.refused_name.ensures.name) in
-      repeated_name k.1.is_text (c.names_are_refused_by_rows.ensures.name settings text index (Some at) k.1 refused);
+      repeated_name k.1.is_text (c.repeated_name_by_rows.ensures.name settings text index (Some at) k.1 refused);
 }

@@ -37,7 +37,7 @@ returns-in_ok-index-in-Accepted c =
     record {
       answer = (
         judged,
-        c.indexes_stand_behind_fronts.ensures.over text start run.depth index judged e.text (e.span ∙ ap (λ (n : ℕ). span start n) c.requires.end)
+        c.index_behind_a_front.ensures.over text start run.depth index judged e.text (e.span ∙ ap (λ (n : ℕ). span start n) c.requires.end)
             (λ limit tree t. e.rows limit tree (subst (λ (n : ℕ). IsText text start n limit tree) (sym c.requires.end) t)),
       );
     }

@@ -10,7 +10,7 @@ returns-in-Skip c =
     let text = c.args.text.now in
     let settings = c.args.settings.now in
     let count = c.in-Skip.count in
-    let law = c.indexes_stand_behind_fronts.ensures in
+    let law = c.index_behind_a_front.ensures in
     IfOk-weaker c.read_from.result (λ (a : TextAnswer). IsAnswerFrom count text settings.depth a) (λ (a : TextAnswer). IsReadBy settings text a)
     (behind_answer settings text count (λ i k. law.index settings text count i (sym c.in-Skip.ensures.value) k) (λ v k. law.verdict settings text count v (sym c.in-Skip.ensures.value) k))
     c.read_from.ensures.answer

@@ -22,7 +22,7 @@ returns-in-Ok g c =
     record {
       answer = (
         judged,
-        c.indexes_stand_behind_fronts.ensures.over text start depth index judged
+        c.index_behind_a_front.ensures.over text start depth index judged
             (IfOk-at_ok (λ (i : IndexedValue). i.text ≡ text) c.in-Ok.is e.text)
             (IfOk-at_ok (λ (i : IndexedValue). i.span ≡ span start end) c.in-Ok.is e.span)
             (IfOk-at_ok (λ (i : IndexedValue). (limit : ℕ) (tree : Tree) → IsText text start end limit tree → i.rows ≡ rows tree) c.in-Ok.is e.rows),

@@ -21,10 +21,10 @@ returns-clause-verdict c =
     let track = tokens_by settings.mark bytes in
     let judged : JudgedBy settings 0 bytes Accepted = judged_as settings bytes f h c.verdict.result Accepted c.in-Accepted.is c.verdict.ensures.verdict in
     let accepted : verdict_on (read_by settings.mark settings.depth 0 bytes) ≡ Accepted =
-    c.verdict_by_settings_is_one.ensures.one_verdict settings 0 bytes (verdict_on (read_by settings.mark settings.depth 0 bytes)) Accepted (c.reader_is_grammar.ensures.by_settings settings 0 bytes) judged in
+    c.unique_verdict_by_settings.ensures.one_verdict settings 0 bytes (verdict_on (read_by settings.mark settings.depth 0 bytes)) Accepted (c.reader_and_grammar.ensures.by_settings settings 0 bytes) judged in
     let held = all_held settings bytes f h c.in-Some.held c.in-Some.is accepted in
     let names = c.in_ok-names-in-Accepted.names in
     let a = c.accepted_texts_stand_behind_fronts.ensures settings bytes judged in
-    by_names settings bytes a (record { reads = c.tokens_are_read.ensures.reads; stays = c.tokens_are_read.ensures.stays }) (kept names)
-    (c.in_ok-names-in-Accepted.ensures bytes track.marks track.ends held) h.names (λ i front x. c.indexes_stand_behind_fronts.ensures.index settings bytes a.count i front x) c.accepted_unless.result
+    by_names settings bytes a (record { reads = c.grammar_of_tokens.ensures.reads; stays = c.grammar_of_tokens.ensures.stays }) (kept names)
+    (c.in_ok-names-in-Accepted.ensures bytes track.marks track.ends held) h.names (λ i front x. c.index_behind_a_front.ensures.index settings bytes a.count i front x) c.accepted_unless.result
     (c.accepted_unless.ensures ∙ ap accepted_unless c.first.ensures)

@@ -1,7 +1,8 @@
-use Rattle.std.proofs.Common.{◌≡◌, [], refl, sym, ◌∙◌, false}
+use Rattle.std.proofs.Common.{◌≡◌, ℕ, ◌+◌, [], ◌++◌, refl, sym, ap, ◌∙◌, false}
+use Rattle.std.specs.Prelude.{slice_range}
 use Rattle.jx_index.proofs.InOrders.{none_of}
 use Rattle.jx_names.specs.inside.KeptNames.{is_name_next, kept}
-use Rattle.jx_names.proofs.Telling.{has_whole}
+use Rattle.jx_names.proofs.Telling.{has_whole, part_there}
 use Rattle.jx_names.proofs.on_slice.OnSliceTokenSink.token.Goals as goal
 
 pub returns-then-not-is_name_next-clause-seen : goal.returns-then-not-is_name_next-clause-seen
@@ -15,6 +16,9 @@ returns-then-not-is_name_next-clause-seen g c = λ marks ends h.
 pub returns-clause-seen : goal.returns-clause-seen
 returns-clause-seen g c = λ marks ends h.
     let k = c.args.self.now in
-    has_whole g.B.Before.held g.B.Before.slice marks ends k.slice.now k.base k.names c.args.mark c.in_ok-at.at c.args.to c.tell.new.self k.begun k.name.items _ c.in_ok-name.name.now
-    c.in_ok-at.ensures c.requires.kind (none_of k.begun c.requires.turn) c.in_ok-tell.ensures
-    (λ next before future base name_is. c.in_ok-name.ensures refl before future base name_is) h
+    let name = c.in_ok-name.ensures in
+    has_whole g.B.Before.held g.B.Before.slice marks ends k.slice.now k.base k.names c.args.mark c.in_ok-at.at c.args.to c.name.new.self k.begun k.name.items k.name.items (slice_range k.slice.now c.args.mark.at c.args.to)
+    c.in_ok-at.ensures c.requires.kind (none_of k.begun c.requires.turn)
+    (λ text b end named s. let next = sym c.is_name_next.ensures ∙ c.if-not-is_name_next.false in name.stands text b c.args.mark.kind end next (named next) s)
+    (λ next before future base name_is.
+    part_there before k.slice.now future k.base c.args.mark.at c.args.to base name.within.0 name.within.1 ∙ ap (λ (i : ℕ). slice_range ((before ++ k.slice.now) ++ future) i (k.base + c.args.to)) (sym c.in_ok-at.ensures)) h

@@ -9,7 +9,7 @@ returns-clause-told c = λ settings input told h.
     let i = c.self.inside in
     let r : ElementReaderValue = record { mark = i.mark; first = i.first.items; reader = i.reader; open_ended = i.open_ended } in
     let o : HasToldElements settings input told r = viewed settings input told r c.args.self.now c.self.view_is h in
-    let laws = c.sequences_are_read_part_by_part.ensures in
+    let laws = c.elements_of_two_parts.ensures in
     let long = laws.reached settings.depth input o.judged r.reader r.open_ended o.read in
     let end = c.end-end.ensures in
     let start = c.reset.ensures.start in

@@ -18,4 +18,4 @@ returns c = λ settings input told h.
     let e : ended_there (span r.reader.start (r.reader.start + r.reader.count)) c.verdict.result r.open_ended ≡ c.ended_there.result =
     ap (λ s. ended_there s c.verdict.result r.open_ended) (sym place) ∙ sym c.ended_there.ensures in
     subst (λ (x : Option JudgedElement). AllZip (IsJudgedElement settings.depth) (elements 0 input) (o.judged ++ listed x)) e
-    (c.sequences_are_read_part_by_part.ensures.ended settings.depth input o.judged r.reader r.open_ended c.verdict.result o.read c.verdict.ensures.verdict)
+    (c.elements_of_two_parts.ensures.ended settings.depth input o.judged r.reader r.open_ended c.verdict.result o.read c.verdict.ensures.verdict)

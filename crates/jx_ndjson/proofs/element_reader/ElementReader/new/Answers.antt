@@ -7,5 +7,5 @@ pub returns-clause-told : goal.returns-clause-told
 returns-clause-told c =
     let same = c.new-2.ensures.settings ∙ c.into.ensures in
     begun_elements c.args.settings.now _ refl
-    (c.sequences_are_read_part_by_part.ensures.begun c.args.settings.now.depth c.new-2.result (ap (λ (s : Settings). s.depth) same) (ap (λ (s : Settings). s.mark) same) c.new-2.ensures.start c.new-2.ensures.reads)
+    (c.elements_of_two_parts.ensures.begun c.args.settings.now.depth c.new-2.result (ap (λ (s : Settings). s.depth) same) (ap (λ (s : Settings). s.mark) same) c.new-2.ensures.start c.new-2.ensures.reads)
     c.new.ensures.items

@@ -10,7 +10,7 @@ returns-then-is_passed c = λ settings input told h all.
     let r : ElementReaderValue = record { mark = i.mark; first = i.first.items; reader = i.reader; open_ended = i.open_ended } in
     let o : HasToldElements settings input told r = viewed settings input told r c.args.self.now c.self.view_is h in
     let place = span_by c.start.result c.end.result r c.start.ensures c.end.ensures in
-    let long = c.sequences_are_read_part_by_part.ensures.reached settings.depth input o.judged r.reader r.open_ended o.read in
+    let long = c.elements_of_two_parts.ensures.reached settings.depth input o.judged r.reader r.open_ended o.read in
     let passed = c.is_passed.ensures input (c.end.ensures ∙ long) (λ at. c.deref.ensures.value ∙ o.first (sym c.start.ensures ∙ at)) in
     mark_untold settings input told r o (ap (λ s. is_passed_by r.mark input s) (sym place) ∙ sym passed ∙ c.if-is_passed.true)
 
@@ -20,6 +20,6 @@ returns-else-is_passed c = λ settings input told h all.
     let r : ElementReaderValue = record { mark = i.mark; first = i.first.items; reader = i.reader; open_ended = i.open_ended } in
     let o : HasToldElements settings input told r = viewed settings input told r c.args.self.now c.self.view_is h in
     let place = span_by c.start.result c.end.result r c.start.ensures c.end.ensures in
-    let long = c.sequences_are_read_part_by_part.ensures.reached settings.depth input o.judged r.reader r.open_ended o.read in
+    let long = c.elements_of_two_parts.ensures.reached settings.depth input o.judged r.reader r.open_ended o.read in
     let passed = c.is_passed.ensures input (c.end.ensures ∙ long) (λ at. c.deref.ensures.value ∙ o.first (sym c.start.ensures ∙ at)) in
     last_told settings input told r o c.args.judged (ap (λ s. is_passed_by r.mark input s) (sym place) ∙ sym passed ∙ c.if-is_passed.false) all

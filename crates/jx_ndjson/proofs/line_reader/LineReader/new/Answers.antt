@@ -1,12 +1,10 @@
-use Rattle.std.proofs.Common.{[], ap, refl, ◌∙◌}
-use Rattle.jx_run.specs.declared.texts.settings.Settings.{Settings}
+use Rattle.std.proofs.Common.{[], refl, ◌∙◌}
 use Rattle.jx_run.specs.Elements.{part}
-use Rattle.jx_ndjson.proofs.Fronts.{at_start}
+use Rattle.jx_ndjson.proofs.Fronts.{at_start, first_settings}
 use Rattle.jx_ndjson.proofs.line_reader.LineReader.new.Goals as goal
 
 pub returns-clause-told : goal.returns-clause-told
 returns-clause-told c =
-    let same = c.new.ensures.settings ∙ c.into.ensures in
     at_start c.args.settings.now _
     (record {
       ended = [];
@@ -16,8 +14,7 @@ returns-clause-told c =
       count = refl;
       goes_on =
           record {
-            depth = ap (λ (s : Settings). s.depth) same;
-            mark = ap (λ (s : Settings). s.mark) same;
+            reads_by = c.new.ensures.settings ∙ first_settings c.args.settings.now;
             start = c.new.ensures.start;
             read = c.new.ensures.reads;
             blank = refl;

@@ -1,5 +1,6 @@
 use Rattle.std.proofs.Common.{◌≡◌, ◌+◌, ◌≤◌, ℕ, [], false, ap, refl, sym, subst, ◌∙◌, arith}
 use Rattle.jx_run.specs.Elements.{part}
+use Rattle.jx_ndjson.specs.Answers.{mark_at}
 use Rattle.jx_ndjson.specs.Reading.{IsOpen, LineReaderValue}
 use Rattle.jx_ndjson.proofs.Steps.{same_open}
 use Rattle.jx_ndjson.proofs.Whole.{passes}
@@ -21,9 +22,9 @@ returns-clause-told c = λ settings input bytes told answers h k.
     let same = c.begin.ensures.ended in
     let more = c.count.ensures.count in
     let ended : j.ended + c.count.result ≡ old.ended + whole.count = omega (arith, before, same, more) in
-    passes c.reader_is_grammar.ensures.verdict settings input bytes told answers whole old _ c.requires.in_front front c.requires.between few c.requires.fits h k
-    (λ p o.
-    same_open settings.depth (part (old.reader.start + whole.len) []) m _ refl refl refl
-    (subst (λ (v : LineReaderValue). IsOpen settings.depth (part (old.reader.start + whole.len) []) v) (sym c.self-2.view_is)
-    (subst (λ (k : ℕ). IsOpen settings.depth (part k []) c.begin.new.self) next (c.begin.ensures.goes_on settings.depth p o))))
+    passes c.reader_and_grammar.ensures.verdict settings input bytes told answers whole old _ c.requires.in_front front c.requires.between few c.requires.fits h k
+    (λ p o none.
+    same_open settings (part (old.reader.start + whole.len) []) m _ refl refl refl
+    (subst (λ (v : LineReaderValue). IsOpen settings (part (old.reader.start + whole.len) []) v) (sym c.self-2.view_is)
+    (subst (λ (k : ℕ). IsOpen settings (part k []) c.begin.new.self) next (c.begin.ensures.goes_on settings p o (ap (mark_at settings.mark) next ∙ none)))))
     ended

@@ -28,6 +28,6 @@ returns-clause-told c =
     subst (λ (xs : List ℕ). HasTold settings (input ++ xs) (told ++ listed step.line) c.read_line.new.self) (sym first.1)
     (leaves_front settings input b first.0 told (told ++ listed step.line) c.args.self.now c.read_line.new.self h c.requires.in_front c.read_line.ensures.in_front differs
     (λ at before o.
-    subst (λ (xs : List ℕ). HasReadLines settings.depth at (before ++ xs) (told ++ listed step.line) c.read_line.new.self) first.1
-    (told_by settings.depth at before told (same_lines settings.depth at before told r _ refl refl refl refl (subst (λ (v : LineReaderValue). HasReadLines settings.depth at before told v) (sym c.self.view_is) o))))))
+    subst (λ (xs : List ℕ). HasReadLines settings at (before ++ xs) (told ++ listed step.line) c.read_line.new.self) first.1
+    (told_by settings at before told (same_lines settings at before told r _ refl refl refl refl (subst (λ (v : LineReaderValue). HasReadLines settings at before told v) (sym c.self.view_is) o))))))
     c.read_line.ensures.goes_on c.read_line.ensures.told

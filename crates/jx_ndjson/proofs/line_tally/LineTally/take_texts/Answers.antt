@@ -1,4 +1,5 @@
 use Rattle.std.proofs.Common.{◌≡◌, ◌+◌, ℕ, List, ◌++◌, append-nil, refl, sym, ap, subst, ◌∙◌, take}
+use Rattle.jx_run.specs.declared.texts.settings.Settings.{Settings}
 use Rattle.jx_ndjson.specs.declared.line_tally.LineCounts.{LineCounts}
 use Rattle.jx_ndjson.specs.Tally.{HasTaken, TallyValue}
 use Rattle.jx_ndjson.specs.WholeLines.{AreWhole, WholeLinesValue}
@@ -17,7 +18,7 @@ returns-clause-taken c = λ settings input given h.
     let counts : ℕ → LineCounts = λ n. record { accepted = i.counts.accepted + n; refused = i.counts.refused; blank = i.counts.blank } in
     let new : TallyValue = record { lines = c.pass.new.self; counts = counts c.count.result; waiting = i.waiting.items } in
     let taken : HasTaken settings input given old = subst (λ (v : TallyValue). HasTaken settings input given v) (sym c.self.view_is) h in
-    let depth : c.depth.result ≡ settings.depth = c.depth.ensures ∙ taken.told.reads.goes_on.depth in
+    let depth : c.depth.result ≡ settings.depth = c.depth.ensures ∙ ap (λ (s : Settings). s.depth) taken.told.reads.goes_on.reads_by in
     let are : AreWhole settings.depth (take whole.len slice) c.in_ok-texts.ensures.whole.0 whole =
     subst (λ (d : ℕ). AreWhole d (take whole.len slice) c.in_ok-texts.ensures.whole.0 whole) depth c.in_ok-texts.ensures.whole.1 in
     subst (λ (n : ℕ). HasTaken settings (input ++ take n slice) given new) (sym c.len.ensures)

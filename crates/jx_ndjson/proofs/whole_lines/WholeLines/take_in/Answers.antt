@@ -17,7 +17,7 @@ returns-clause-joins c = λ limit xs ys before more h k.
     let few : v.count ≤ v.len = subst (λ (x : WholeLinesValue). x.count ≤ x.len) c.self.view_is c.self.invariant.1 in
     let len : s.len + b.len ≡ v.len + w.len = omega (arith, len_v, len_w) in
     let count : s.count + b.count ≡ v.count + w.count = omega (arith, count_v, count_w) in
-    whole_joins c.reader_is_grammar.ensures.verdict limit xs ys before more v w _ c.requires few h k len count
+    whole_joins c.reader_and_grammar.ensures.verdict limit xs ys before more v w _ c.requires few h k len count
     (c.in_ok-append_behind.ensures.ok
     ∙ ap (λ (js : List JudgedLine). s.bad.items ++ map (moved_line s.count s.len) js) c.deref.ensures.value
     ∙ ap (λ (x : WholeLinesValue). x.bad ++ map (moved_line x.count x.len) b.bad.items) c.self.view_is

@@ -6,5 +6,5 @@ use Rattle.jx_parallel.proofs.lead.Lead.decided.Goals as goal
 pub returns : goal.returns
 returns g c =
     let fault : is_fault c.self.inside.reader.outcome ≡ true = cc in
-    decides c.reader_is_grammar.ensures.by_settings c.verdict_by_settings_is_one.ensures.one_verdict g.K.Known.text g.K.Known.settings c.self.inside.reader c.verdict.result c.self.invariant fault
+    decides c.reader_and_grammar.ensures.by_settings c.unique_verdict_by_settings.ensures.one_verdict g.K.Known.text g.K.Known.settings c.self.inside.reader c.verdict.result c.self.invariant fault
     c.verdict.ensures.verdict

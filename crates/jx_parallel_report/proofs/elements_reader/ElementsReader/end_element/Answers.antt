@@ -12,7 +12,7 @@ returns-in-None-clause-ended c = λ xs h.
     let old = c.args.self.now in
     let depth = c.args.rule.now.depth in
     let none : ended_there (span old.reader.start (old.reader.start + old.reader.count)) c.verdict.result old.open_ended ≡ None = cc in
-    let all = c.sequences_are_read_part_by_part.ensures.ended depth xs h.judged old.reader old.open_ended c.verdict.result h.read c.verdict.ensures.verdict in
+    let all = c.elements_of_two_parts.ensures.ended depth xs h.judged old.reader old.open_ended c.verdict.result h.read c.verdict.ensures.verdict in
     record {
       judged = h.judged;
       are = subst (λ (js : List JudgedElement). AllZip (IsJudgedElement depth) (elements 0 xs) js) (append-nil h.judged)
@@ -26,7 +26,7 @@ returns-in_ok-tell-in-Some-clause-ended c = λ xs h.
     let depth = c.args.rule.now.depth in
     let x : JudgedElement = c.in-Some.element in
     let one : ended_there (span old.reader.start (old.reader.start + old.reader.count)) c.verdict.result old.open_ended ≡ Some x = cc in
-    let all = c.sequences_are_read_part_by_part.ensures.ended depth xs h.judged old.reader old.open_ended c.verdict.result h.read c.verdict.ensures.verdict in
+    let all = c.elements_of_two_parts.ensures.ended depth xs h.judged old.reader old.open_ended c.verdict.result h.read c.verdict.ensures.verdict in
     record {
       judged = h.judged ++ x ∷ [];
       are = subst (λ (o : Option JudgedElement). AllZip (IsJudgedElement depth) (elements 0 xs) (h.judged ++ listed o)) one all;

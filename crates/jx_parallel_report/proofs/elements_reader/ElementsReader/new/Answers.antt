@@ -7,6 +7,6 @@ use Rattle.jx_parallel_report.proofs.elements_reader.ElementsReader.new.Goals as
 pub returns : goal.returns
 returns c = record {
   judged = [];
-  read = search (rules, c.sequences_are_read_part_by_part.ensures.begun);
+  read = search (rules, c.elements_of_two_parts.ensures.begun);
   told = subst (λ (xs : List ℕ). IsToldOf c.args.rule.now.is_quiet [] xs Good) (sym c.new-2.ensures.items) (told_none c.args.rule.now.is_quiet);
 }

@@ -4,4 +4,4 @@ use Rattle.jx_parallel_report.proofs.elements_reader.ElementsReaderPartReader.en
 pub returns-clause-length : goal.returns-clause-length
 returns-clause-length c = λ rule xs given h.
     let r = c.args.self.now in
-    c.end.ensures ∙ c.sequences_are_read_part_by_part.ensures.reached rule.depth xs h.judged r.reader r.open_ended h.read
+    c.end.ensures ∙ c.elements_of_two_parts.ensures.reached rule.depth xs h.judged r.reader r.open_ended h.read

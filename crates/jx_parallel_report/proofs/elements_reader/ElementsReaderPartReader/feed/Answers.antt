@@ -21,7 +21,7 @@ returns c =
           (λ reads xs given h.
           let h1 = c.in_ok-go_on-2.ensures.read rule xs h in
           let before = xs ++ slice_range bytes 0 i in
-          let at : c.end-at.result ≡ length before = c.end-at.ensures ∙ c.sequences_are_read_part_by_part.ensures.reached rule.depth before h1.judged first.reader first.open_ended h1.read in
+          let at : c.end-at.result ≡ length before = c.end-at.ensures ∙ c.elements_of_two_parts.ensures.reached rule.depth before h1.judged first.reader first.open_ended h1.read in
           subst (λ (l : List ℕ). HasRead rule l c.go_on-3.new.self) (three_parts xs bytes i j (omega (arith, low)) high)
           (reads rule _ (c.in_ok-take_in.ensures.taken before mid h1 (length-between bytes i j high) (subst (λ (n : ℕ). IsPart rule n mid c.in_ok-part.part) at c.in_ok-part.ensures))))
           c.go_on-3.ensures.read;

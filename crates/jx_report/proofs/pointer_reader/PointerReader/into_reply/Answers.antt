@@ -18,4 +18,4 @@ returns c = λ settings spelt text h.
     let unrefused : IsRefusalByNames settings text None = subst (λ (o : Option Refusal). IsRefusalByNames settings text o) c.in_default.is (c.in_ok-refusal.ensures settings text h.compared) in
     let read = subst (λ (us : List (Option PointerFault)). AreReadPointers spelt h.pointers us) (sym c.deref.ensures.value) h.read in
     let answers = c.in_ok-answers.ensures (any_names settings) spelt h.pointers text read h.fed in
-    c.reply_of_answers.ensures settings spelt text (answers_unrefused settings text spelt c.in_ok-answers.answers c.verdicts_by_settings_are_one.ensures.verdict unrefused answers)
+    c.reply_of_answers.ensures settings spelt text (answers_unrefused settings text spelt c.in_ok-answers.answers c.unique_verdicts_by_settings.ensures.verdict unrefused answers)

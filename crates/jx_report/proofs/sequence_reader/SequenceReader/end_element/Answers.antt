@@ -16,7 +16,7 @@ returns-in-None-clause-judged c = λ settings text h.
     let old = c.args.self.now in
     let reader = old.reader in
     let none : ended_there (span reader.start (reader.start + reader.count)) c.verdict.result old.open_ended ≡ None = cc in
-    let all = c.sequences_are_read_part_by_part.ensures.ended settings.depth text h.told reader old.open_ended c.verdict.result h.read c.verdict.ensures.verdict in
+    let all = c.elements_of_two_parts.ensures.ended settings.depth text h.told reader old.open_ended c.verdict.result h.read c.verdict.ensures.verdict in
     record {
       told = h.told;
       ended = subst (λ (xs : List JudgedElement). AllZip (IsJudgedElement settings.depth) (elements 0 text) xs) (append-nil h.told)
@@ -33,7 +33,7 @@ returns-in_ok-push-in-Some-clause-judged c = λ settings text h.
     let s : Span = span reader.start (reader.start + reader.count) in
     let one : ended_there s c.verdict.result old.open_ended ≡ Some x = cc in
     let place : x.span ≡ s = ended_span s c.verdict.result old.open_ended x one in
-    let laws = c.sequences_are_read_part_by_part.ensures in
+    let laws = c.elements_of_two_parts.ensures in
     let reached = laws.reached settings.depth text h.told reader old.open_ended h.read in
     let all = laws.ended settings.depth text h.told reader old.open_ended c.verdict.result h.read c.verdict.ensures.verdict in
     record {

@@ -15,7 +15,7 @@ returns-clause-reads g c = λ settings text h.
     record {
       settings_are = ap (λ (s : SequenceReader). s.settings) same ∙ h.settings_are;
       told = h.told;
-      read = c.sequences_are_read_part_by_part.ensures.gone_on settings.depth text bytes h.told kept.reader _ kept.open_ended _ read c.requires.unseparated c.in_ok-read_batch.ensures.settings
+      read = c.elements_of_two_parts.ensures.gone_on settings.depth text bytes h.told kept.reader _ kept.open_ended _ read c.requires.unseparated c.in_ok-read_batch.ensures.settings
           c.in_ok-read_batch.ensures.start c.in_ok-read_batch.ensures.reads c.ends_open_behind-self.ensures;
       kept = named_longer settings text bytes h.told kept.judged.items told;
       held = λ unique. (let f = c.in_ok-keep_last.ensures.held text h.held unique in (f.0, f.1, f.2 ∙ sym c.in_ok-read_batch.ensures.start));

@@ -22,5 +22,5 @@ returns c = λ settings text h.
     let mark : settings.mark ≡ Ignored = sym (ap (λ (s : SequenceReader). s.settings.mark) c.in_ok-end_element.ensures.rest ∙ ap (λ s. s.mark) h.read.settings_are) ∙ c.in-Ignored.is in
     let seen = c.front-seen.ensures.value
     ∙ ap (λ (xs : List ℕ). front_of Ignored xs) (c.deref.ensures.value ∙ ap (λ (s : SequenceReader). s.first.items) c.in_ok-end_element.ensures.rest ∙ h.first)
-    ∙ front_shows c.fronts_decide_where_texts_begin.ensures.stays Ignored text in
+    ∙ front_shows c.beginning_of_a_text_by_its_front.ensures.stays Ignored text in
     c.without_mark.ensures settings text mark seen (all_by_names settings text e.told c.end_element.new.self.judged.items e.ended e.kept)

@@ -19,7 +19,7 @@ returns-clause-verdict g c =
     } in
     subst (Judged c.args.from bytes c.args.depth)
     (ap (λ (e : LexExit). verdict_from e c.whole.result) (sym c.unwrap_or.ensures) ∙ sym c.verdict_from-verdict.ensures)
-    (both_judged c.reader_is_grammar.ensures.verdict _ _ _ _ _ _ _ _ _ s)
+    (both_judged c.reader_and_grammar.ensures.verdict _ _ _ _ _ _ _ _ _ s)
 
 pub returns-clause-seen : goal.returns-clause-seen
 returns-clause-seen g c = λ accepted.

@@ -25,8 +25,8 @@ returns-in_default-clause-seen g c =
     let fits = c.requires.bounds.1 in
     let old = g.K.TokenSink.has_seen c.loop-at.sink in
     let new = g.K.TokenSink.has_seen c.scan.new.sink in
-    sees_then c.pieces_are_read_in_turn.ensures.stretch xs c.args.from at c.args.to Gap v.low v.high (let h = v.high in omega (arith, fits, h)) c.loop-at.state v.read.exit (g.K.TokenSink.has_seen c.args.sink.now) old new v.read.seen
-    (done_sees c.pieces_are_read_in_turn.ensures.stretch xs at stop c.args.to c.loop-at.state (omega (arith, b)) b.1 (let h = b.1 in omega (arith, fits, h)) old new c.in_ok-exit.ensures.seen (c.in_ok-exit.ensures.done (ap is_some c.in_default.is)))
+    sees_then c.lex_of_two_parts.ensures.stretch xs c.args.from at c.args.to Gap v.low v.high (let h = v.high in omega (arith, fits, h)) c.loop-at.state v.read.exit (g.K.TokenSink.has_seen c.args.sink.now) old new v.read.seen
+    (done_sees c.lex_of_two_parts.ensures.stretch xs at stop c.args.to c.loop-at.state (omega (arith, b)) b.1 (let h = b.1 in omega (arith, fits, h)) old new c.in_ok-exit.ensures.seen (c.in_ok-exit.ensures.done (ap is_some c.in_default.is)))
 
 pub returns-in-Fault-clause-seen : goal.returns-in-Fault-clause-seen
 returns-in-Fault-clause-seen g c =
@@ -41,8 +41,8 @@ returns-in-Fault-clause-seen g c =
     let track = lex c.loop-at.state at (slice_range xs at stop) in
     let e : exit_of c.in-Some.exit ≡ track.exit = subst (λ (o : Option LexExit). IfSome o (λ e. exit_of e ≡ track.exit)) c.in-Some.is c.in_ok-exit.ensures.exit in
     let f : track.exit ≡ reading.fault c.in-Fault.fault = sym e ∙ ap exit_of c.in-Fault.is in
-    sees_then c.pieces_are_read_in_turn.ensures.stretch xs c.args.from at c.args.to Gap v.low v.high (let h = v.high in omega (arith, fits, h)) c.loop-at.state v.read.exit (g.K.TokenSink.has_seen c.args.sink.now) old new v.read.seen
-    (subst (λ (x : Track). SeesTrack old new x) (sym (fault_ends c.pieces_are_read_in_turn.ensures.stretch xs at stop c.args.to c.loop-at.state (omega (arith, b)) b.1 (let h = b.1 in omega (arith, fits, h)) c.in-Fault.fault f)) c.in_ok-exit.ensures.seen)
+    sees_then c.lex_of_two_parts.ensures.stretch xs c.args.from at c.args.to Gap v.low v.high (let h = v.high in omega (arith, fits, h)) c.loop-at.state v.read.exit (g.K.TokenSink.has_seen c.args.sink.now) old new v.read.seen
+    (subst (λ (x : Track). SeesTrack old new x) (sym (fault_ends c.lex_of_two_parts.ensures.stretch xs at stop c.args.to c.loop-at.state (omega (arith, b)) b.1 (let h = b.1 in omega (arith, fits, h)) c.in-Fault.fault f)) c.in_ok-exit.ensures.seen)
 
 pub returns-in-Fault-clause-exit : goal.returns-in-Fault-clause-exit
 returns-in-Fault-clause-exit g c =
@@ -56,8 +56,8 @@ returns-in-Fault-clause-exit g c =
     let e : exit_of c.in-Some.exit ≡ track.exit = subst (λ (o : Option LexExit). IfSome o (λ e. exit_of e ≡ track.exit)) c.in-Some.is c.in_ok-exit.ensures.exit in
     let f : track.exit ≡ reading.fault c.in-Fault.fault = sym e ∙ ap exit_of c.in-Fault.is in
     sym (
-    exit_then c.pieces_are_read_in_turn.ensures.stretch xs c.args.from at c.args.to Gap v.low v.high (let h = v.high in omega (arith, fits, h)) c.loop-at.state v.read.exit
-    ∙ ap (λ (t : Track). t.exit) (fault_ends c.pieces_are_read_in_turn.ensures.stretch xs at stop c.args.to c.loop-at.state (omega (arith, b)) b.1 (let h = b.1 in omega (arith, fits, h)) c.in-Fault.fault f)
+    exit_then c.lex_of_two_parts.ensures.stretch xs c.args.from at c.args.to Gap v.low v.high (let h = v.high in omega (arith, fits, h)) c.loop-at.state v.read.exit
+    ∙ ap (λ (t : Track). t.exit) (fault_ends c.lex_of_two_parts.ensures.stretch xs at stop c.args.to c.loop-at.state (omega (arith, b)) b.1 (let h = b.1 in omega (arith, fits, h)) c.in-Fault.fault f)
     ∙ f)
 
 pub loop-at-preserved : goal.loop-at-preserved
@@ -80,8 +80,8 @@ loop-at-preserved g c =
       high = b.1;
       turn = subst (AwaitsAt (g.K.TokenSink.awaits c.scan.new.sink)) c.in-State.is (subst (λ (o : Option LexExit). IfSome o (AwaitsAt (g.K.TokenSink.awaits c.scan.new.sink))) c.in-Some.is c.in_ok-exit.ensures.turn);
       read = record {
-        seen = sees_then c.pieces_are_read_in_turn.ensures.stretch xs c.args.from at stop Gap low (omega (arith, b)) (let h = v.high in omega (arith, fits, h)) c.loop-at.state v.read.exit (g.K.TokenSink.has_seen c.args.sink.now) old new v.read.seen here.seen;
-        exit = exit_then c.pieces_are_read_in_turn.ensures.stretch xs c.args.from at stop Gap low (omega (arith, b)) (let h = v.high in omega (arith, fits, h)) c.loop-at.state v.read.exit ∙ here.exit;
+        seen = sees_then c.lex_of_two_parts.ensures.stretch xs c.args.from at stop Gap low (omega (arith, b)) (let h = v.high in omega (arith, fits, h)) c.loop-at.state v.read.exit (g.K.TokenSink.has_seen c.args.sink.now) old new v.read.seen here.seen;
+        exit = exit_then c.lex_of_two_parts.ensures.stretch xs c.args.from at stop Gap low (omega (arith, b)) (let h = v.high in omega (arith, fits, h)) c.loop-at.state v.read.exit ∙ here.exit;
       };
     }
 

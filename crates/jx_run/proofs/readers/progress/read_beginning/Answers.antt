@@ -18,7 +18,7 @@ returns-in-Going-clause-reads g c =
     let long = length-take-le a.to a.slice.now c.requires.within in
     let end = c.requires.fits in
     let fits : a.base + length xs < 2 ^ 64 = omega (arith, long, end) in
-    going c.reader_is_grammar.ensures.first_fault settings start a.base bytes xs c.in-Going.state old new p at fits here (goes here.of_use.0.marks here.of_use.0.read))
+    going c.reader_and_grammar.ensures.first_fault settings start a.base bytes xs c.in-Going.state old new p at fits here (goes here.of_use.0.marks here.of_use.0.read))
     c.read_slice.ensures.goes_on
 
 pub returns-in-Stopped-clause-reads : goal.returns-in-Stopped-clause-reads

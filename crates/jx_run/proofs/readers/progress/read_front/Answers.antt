@@ -17,7 +17,7 @@ returns-then-count-eq3-clause-reads g c =
     let new = g.S.OpenStack.known c.read_all.new.stack in
     IfOk-weaker c.read_all.result _ _
     (λ p goes settings start bytes at h.
-    begun_behind settings start a.base a.before count bytes a.slice.now old c.requires.cut at h c.count_agreed-count.ensures.counted c.reader_is_grammar.ensures.first_fault
+    begun_behind settings start a.base a.before count bytes a.slice.now old c.requires.cut at h c.count_agreed-count.ensures.counted c.reader_and_grammar.ensures.first_fault
     (count - a.before) new p c.requires.fits c.if-count-eq3.true refl (goes [] h.of_use.read))
     c.read_all.ensures.goes_on
 
@@ -35,6 +35,6 @@ returns-then-count-eq0-clause-reads g c =
     let bare = c.if-count-eq0.true in
     IfOk-weaker c.read_all-then-count-eq0.result _ _
     (λ p goes settings start bytes at h.
-    begun_bare settings start a.base a.before c.count_agreed-count.result bytes a.slice.now old c.requires.cut at h c.count_agreed-count.ensures.counted c.reader_is_grammar.ensures.first_fault
+    begun_bare settings start a.base a.before c.count_agreed-count.result bytes a.slice.now old c.requires.cut at h c.count_agreed-count.ensures.counted c.reader_and_grammar.ensures.first_fault
     new p c.requires.fits bare (omega (arith, other, bare)) (goes [] h.of_use.read))
     c.read_all-then-count-eq0.ensures.goes_on

@@ -6,5 +6,5 @@ use Rattle.jx_run.proofs.readers.telling.accepted_texts_stand_behind_fronts.Goal
 
 pub returns : goal.returns
 returns c = λ settings bytes h.
-    accepted_from c.reader_is_grammar.ensures.verdict settings bytes
-    (c.verdict_by_settings_is_one.ensures.one_verdict settings 0 bytes (verdict_on (read_by settings.mark settings.depth 0 bytes)) Accepted (c.reader_is_grammar.ensures.by_settings settings 0 bytes) h)
+    accepted_from c.reader_and_grammar.ensures.verdict settings bytes
+    (c.unique_verdict_by_settings.ensures.one_verdict settings 0 bytes (verdict_on (read_by settings.mark settings.depth 0 bytes)) Accepted (c.reader_and_grammar.ensures.by_settings settings 0 bytes) h)

@@ -20,7 +20,7 @@ returns-then-count-eq3-clause-reads g c =
     let xs = slice_range a.slice.now more (length a.slice.now) in
     IfOk-weaker c.tell_slice.result _ _
     (λ t goes settings start bytes at h.
-    begun_behind settings start a.base a.before count bytes a.slice.now a.stack c.requires.cut at h c.count_agreed-count.ensures.counted c.reader_is_grammar.ensures.first_fault
+    begun_behind settings start a.base a.before count bytes a.slice.now a.stack c.requires.cut at h c.count_agreed-count.ensures.counted c.reader_and_grammar.ensures.first_fault
     more t.stack t.progress c.requires.fits c.if-count-eq3.true refl (from_offset a.stack t.stack state.Gap more a.base xs t.progress expect.Value [] h.of_use.read (goes [] h.of_use.read)))
     c.tell_slice.ensures.goes_on
 
@@ -49,7 +49,7 @@ returns-then-count-eq0-clause-reads g c =
     let bare = c.if-count-eq0.true in
     IfOk-weaker c.tell_slice-then-count-eq0.result _ _
     (λ t goes settings start bytes at h.
-    begun_bare settings start a.base a.before c.count_agreed-count.result bytes a.slice.now a.stack c.requires.cut at h c.count_agreed-count.ensures.counted c.reader_is_grammar.ensures.first_fault
+    begun_bare settings start a.base a.before c.count_agreed-count.result bytes a.slice.now a.stack c.requires.cut at h c.count_agreed-count.ensures.counted c.reader_and_grammar.ensures.first_fault
     t.stack t.progress c.requires.fits bare (omega (arith, other, bare)) (whole_goes a.stack t.stack state.Gap a.base a.slice.now t.progress (goes [] h.of_use.read)))
     c.tell_slice-then-count-eq0.ensures.goes_on
 

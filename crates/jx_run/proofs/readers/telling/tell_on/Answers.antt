@@ -12,7 +12,7 @@ returns-in-Going-clause-reads g c =
     IfOk-weaker c.tell_slice.result _ _
     (λ t goes settings start bytes at h.
     let here = subst (λ q. IsReadTo settings start bytes q a.stack) c.in-Going.is h in
-    going c.reader_is_grammar.ensures.first_fault settings start a.base bytes a.slice.now c.in-Going.state a.stack t.stack t.progress at c.requires.fits here
+    going c.reader_and_grammar.ensures.first_fault settings start a.base bytes a.slice.now c.in-Going.state a.stack t.stack t.progress at c.requires.fits here
     (whole_goes a.stack t.stack c.in-Going.state a.base a.slice.now t.progress (goes here.of_use.0.marks here.of_use.0.read)))
     c.tell_slice.ensures.goes_on
 

@@ -12,7 +12,7 @@ extended-requires-clause-before c =
     let slot : IsReduced c.args.reduced.depth c.args.segment.now.marks c.in-Some.slot =
     subst (λ o. IsSomeAnd o (IsReduced c.args.reduced.depth c.args.segment.now.marks)) c.in-Some.is
     (subst (λ d. IsSomeAnd c.fill.new.slot (IsReduced d c.args.segment.now.marks)) c.depth.ensures c.in_ok-fill.ensures.slot) in
-    reduced_before c.structures_lie_in_spans.ensures.before c.args.reduced.depth c.requires.rising.0 c.args.segment.now.marks c.args.reduced c.in-Some.slot c.requires.rising.1 slot c.requires.rising.2
+    reduced_before c.spans_of_structures.ensures.before c.args.reduced.depth c.requires.rising.0 c.args.segment.now.marks c.args.reduced c.in-Some.slot c.requires.rising.1 slot c.requires.rising.2
 
 pub returns-clause-reduced : goal.returns-clause-reduced
 returns-clause-reduced c =

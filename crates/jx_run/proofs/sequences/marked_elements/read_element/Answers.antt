@@ -29,5 +29,5 @@ returns-clause-judged c =
     let long : length bytes ≡ to - from = length-between text from to high in
     let end : start + (to - from) ≡ start + length bytes = omega (arith, long) in
     judged_element limit start bytes start (start + (to - from)) c.verdict.result c.ends_open.result c.told.result refl end c.requires.marked
-    ((c.a_refused_mark_changes_nothing.ensures.verdict c.args.reader.now.settings start bytes c.verdict.result c.requires.plain).0 by)
+    ((c.verdicts_with_a_refused_mark.ensures.verdict c.args.reader.now.settings start bytes c.verdict.result c.requires.plain).0 by)
     c.ends_open.ensures c.told.ensures

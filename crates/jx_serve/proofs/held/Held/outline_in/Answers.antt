@@ -1,4 +1,4 @@
-use Rattle.std.proofs.Common.{◌≡◌, ℕ, List, ap, subst, ◌∙◌, rules}
+use Rattle.std.proofs.Common.{◌≡◌, ℕ, List, ap, subst, sym, take, ◌∙◌, rules}
 use Rattle.jx_index.specs.ByNames.{IsVerdictBy}
 use Rattle.jx_run.specs.declared.texts.settings.Settings.{Settings}
 use Rattle.jx_run.specs.declared.texts.verdict.Verdict.TheVariants.{Refused}
@@ -16,3 +16,10 @@ unreachable-requires c =
     let refused : IsVerdictBy read c.deref.result.now (Refused c.in-Err.field-0) = search rules in
     not_refused settings text c.requires.completed.tree c.in-Err.field-0 c.requires.completed.is_text
     (subst (λ (s : Settings). IsVerdictBy s text (Refused c.in-Err.field-0)) any (subst (λ (l : List ℕ). IsVerdictBy read l (Refused c.in-Err.field-0)) c.deref.ensures.value refused))
+
+pub symbols_of-requires : goal.symbols_of-requires
+symbols_of-requires c =
+    let kept : ℕ = c.args.completed.kept in
+    record {
+      begins = ap (take kept) c.deref-in-Ok.ensures.value ∙ c.requires.completed.begins ∙ ap (λ (v : HeldValue). take kept v.bytes) (sym c.self.view_is);
+    }

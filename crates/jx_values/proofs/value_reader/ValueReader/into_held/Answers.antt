@@ -19,7 +19,7 @@ returns-in-Some-answer_here c =
     IfOk-weaker c.held_of_answer.result _ _
     (λ held e. λ task text only h.
     subst (λ (bytes : List ℕ). ValuesOutput c.args.form task text (flat_map (value_line c.args.form bytes) held.reply.answers.items) held.reply.told.items (exit_by held.reply.told.items)) (sym e.0)
-    (holds_found c.look_ups_end_at_rows.ensures.led c.args.form task text c.args.self.kept.bytes.items c.args.pointer.now c.in-Ok.found.items c.in-Some.found c.in-Some-answer_here.answer held.reply.answers.items held.reply.told.items
+    (holds_found c.rows_of_look_ups.ensures.led c.args.form task text c.args.self.kept.bytes.items c.args.pointer.now c.in-Ok.found.items c.in-Some.found c.in-Some-answer_here.answer held.reply.answers.items held.reply.told.items
     only c.requires
     (IfOk-at_ok _ c.in-Ok.is c.in_ok-refusal.ensures.accepted task.settings one text h.fed)
     (IfOk-at_ok _ c.in-Ok.is c.in_ok-refusal.ensures.found task.settings one text h.fed)

@@ -16,7 +16,7 @@ returns-in-Array-clause-list c = λ pointer at yes tree is.
     let body = c.args.self.now in
     let table = c.rows.result.now in
     let table_is = c.rows.ensures.tree 64 tree (text_there c.self.inside.index body tree c.self.view_is c.self.invariant.0 is) in
-    let value = value_is body tree table pointer c.args.node.now table_is (c.look_ups_end_at_rows.ensures.led body tree (tokens pointer)) (at tree is)
+    let value = value_is body tree table pointer c.args.node.now table_is (c.rows_of_look_ups.ensures.led body tree (tokens pointer)) (at tree is)
     ∙ ap (λ (o : Option ℕ). row_value body (row_in table o)) c.in_ok-node.was in
     subst (IsOfKind kinds.Array) (sym value) (is_array body table c.in_ok-node.node (sym c.kind_of.ensures ∙ c.in-Array.is))
 
@@ -44,6 +44,6 @@ returns-in_default-clause-no_list c = λ pointer at no tree is h.
     let body = c.args.self.now in
     let table = c.rows.result.now in
     let table_is = c.rows.ensures.tree 64 tree (text_there c.self.inside.index body tree c.self.view_is c.self.invariant.0 is) in
-    let value = value_is body tree table pointer c.args.node.now table_is (c.look_ups_end_at_rows.ensures.led body tree (tokens pointer)) (at tree is)
+    let value = value_is body tree table pointer c.args.node.now table_is (c.rows_of_look_ups.ensures.led body tree (tokens pointer)) (at tree is)
     ∙ ap (λ (o : Option ℕ). row_value body (row_in table o)) c.in_ok-node.was in
     is_no_array body table c.in_ok-node.node (λ e. c.in_default.not-Array (c.kind_of.ensures ∙ e)) (subst (IsOfKind kinds.Array) value h)

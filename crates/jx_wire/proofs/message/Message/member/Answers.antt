@@ -30,7 +30,7 @@ returns c = λ word pointer at tree is.
     let table_is : (t : Tree) → IsBody body t → index.rows ≡ rows t = λ t r. sym c.rows-rows.ensures.same ∙ c.rows-rows.ensures.tree 64 t (text_there index body t c.self.view_is c.self.invariant.0 r) in
     let there = body_there index body tree c.self.view_is c.self.invariant.0 is in
     let verdict = subst (λ (l : List ℕ). IsVerdictBy wire_settings l Accepted) c.self.view_is c.self.invariant.1 in
-    let once = c.unique_names_are_met_once.ensures body _ _ _ tree there (names_once body index.rows tree verdict table_is is) in
+    let once = c.look_ups_with_unique_names.ensures body _ _ _ tree there (names_once body index.rows tree verdict table_is is) in
     let led = some_more body index.rows _ _ _ tree there (table_is tree is) pointer name node (word_plain name word) (at tree is ∙ c.in_ok-node.was)
     ∙ ap (λ (l : List ℕ). row_token l index.rows name node k) (sym c.self.view_is) in
     ap result_ok led ∙ c.member_of.ensures k word (λ e. once _ k (led ∙ e))

@@ -12,7 +12,7 @@ pub returns-in_err-row-clause-at : goal.returns-in_err-row-clause-at
 returns-in_err-row-clause-at c = λ pointer at tree is.
     let body = c.args.self.now in
     let table_is = c.rows.ensures.tree 64 tree (text_there c.self.inside.index body tree c.self.view_is c.self.invariant.0 is) in
-    value_is body tree c.rows.result.now pointer c.args.node.now table_is (c.look_ups_end_at_rows.ensures.led body tree (tokens pointer)) (at tree is)
+    value_is body tree c.rows.result.now pointer c.args.node.now table_is (c.rows_of_look_ups.ensures.led body tree (tokens pointer)) (at tree is)
     ∙ ap (row_value body) (sym c.row_of.ensures ∙ c.in_err-row.was) ∙ ap seen (sym c.from_residual.ensures)
 
 pub returns-clause-at : goal.returns-clause-at
@@ -21,7 +21,7 @@ returns-clause-at c = λ pointer at tree is.
     let row = c.in_ok-row.row in
     let table_is = c.rows.ensures.tree 64 tree (text_there c.self.inside.index body tree c.self.view_is c.self.invariant.0 is) in
     let bytes_are = c.bytes_at.ensures ∙ ap (λ (l : List ℕ). slice_range l row.span.start row.span.end) (c.text.ensures ∙ c.self.view_is) in
-    value_is body tree c.rows.result.now pointer c.args.node.now table_is (c.look_ups_end_at_rows.ensures.led body tree (tokens pointer)) (at tree is)
+    value_is body tree c.rows.result.now pointer c.args.node.now table_is (c.rows_of_look_ups.ensures.led body tree (tokens pointer)) (at tree is)
     ∙ ap (row_value body) (sym c.row_of.ensures ∙ c.in_ok-row.was)
     ∙ ap (λ (l : List ℕ). let value : Option ValueIn = Some (record { kind = row.kind; bytes = l }) in value) (sym bytes_are)
 
@@ -32,5 +32,5 @@ returns-clause-spelt c = λ string.
     let t = tree_of text c.self.invariant.1 in
     let table_is = c.rows.ensures.tree 64 t.0 (text_there c.self.inside.index text t.0 refl c.self.invariant.0 t.1) in
     let row_is = ap (λ (l : List Row). row_in l c.args.node.now) (sym table_is) ∙ sym c.row_of.ensures ∙ c.in_ok-row.was in
-    let told = spelt_at text t.0 c.args.node.now row t.1 (c.look_ups_end_at_rows.ensures.nodes t.0) row_is string in
+    let told = spelt_at text t.0 c.args.node.now row t.1 (c.rows_of_look_ups.ensures.nodes t.0) row_is string in
     (told.0, subst (λ (l : List ℕ). IsString l told.0) (sym (c.bytes_at.ensures ∙ ap (λ (l : List ℕ). slice_range l row.span.start row.span.end) c.text.ensures)) told.1)

@@ -1,7 +1,7 @@
 use Rattle.std.proofs.Common.{◌≡◌, ℕ, ◌/◌, Some, subst, sym, ◌∙◌}
 use Rattle.std.proofs.lemmas.Option.{same_Some}
 use Rattle.jx_summary.specs.declared.span.Span.{Span}
-use Rattle.jx_walk.specs.Chunks.{chunk_at}
+use Rattle.jx_file_query.specs.Chunks.{chunk_at}
 use Rattle.jx_c.specs.Opened.{IsChunk, IsNoChunk, chunk_with}
 use Rattle.jx_c.proofs.saving.opened.OpenedIndex.check.Goals as goal
 

@@ -1,6 +1,6 @@
 use Rattle.std.proofs.Common.{◌≡◌, length, subst, sym, ap, ◌∙◌}
-use Rattle.jx_split.specs.declared.cutting.Aim.{Aim}
-use Rattle.jx_split.specs.Parts.{parts_of}
+use Rattle.jx_file_query.specs.declared.cutting.Aim.{Aim}
+use Rattle.jx_file_query.specs.Parts.{parts_of}
 use Rattle.jx_c.specs.Buffers.{IsFilled}
 use Rattle.jx_c.specs.Opened.{HasSplit, shown_part}
 use Rattle.jx_c.specs.declared.saving.opened.IndexWork.{IndexWork}

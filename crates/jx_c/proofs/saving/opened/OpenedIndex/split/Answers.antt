@@ -1,7 +1,7 @@
 use Rattle.std.proofs.Common.{refl, subst, ap, ◌∙◌}
-use Rattle.jx_saved.specs.declared.index.Index.{Index}
-use Rattle.jx_split.specs.declared.split.PausedSplit.{PausedSplit}
-use Rattle.jx_split.specs.Paused.{HasPaused}
+use Rattle.jx_file_index.specs.declared.index.Index.{Index}
+use Rattle.jx_file_query.specs.declared.split.PausedSplit.{PausedSplit}
+use Rattle.jx_file_query.specs.PausedSplits.{HasPaused}
 use Rattle.jx_c.proofs.saving.opened.OpenedIndex.split.Goals as goal
 
 pub returns-clause-split : goal.returns-clause-split

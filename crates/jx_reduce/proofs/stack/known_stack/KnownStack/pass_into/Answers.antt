@@ -31,7 +31,7 @@ returns-then-is_some-clause-marks g c = λ before h.
 
 pub invariant_of-self : goal.invariant_of-self
 invariant_of-self g c =
-    let r = c.rounds-at in
+    let r = c.stretches-at in
     let i = c.self.inside in
     let none : i.fault ≡ None = no_fault i.fault (sym c.is_some.ensures ∙ c.if-is_some.false) in
     let same = c.containers-most.ensures.value in
@@ -43,4 +43,4 @@ pub returns-then-is_some-clause-seen : goal.returns-then-is_some-clause-seen
 returns-then-is_some-clause-seen g c = λ _. sees-none (g.K.TokenSink.has_seen c.args.listener.now.sink) c.args.text.now c.args.from
 
 pub returns-clause-seen : goal.returns-clause-seen
-returns-clause-seen g c = λ ok marks ends h. c.rounds-at.ensures.seen marks ends (λ _. h) ok
+returns-clause-seen g c = λ ok marks ends h. c.stretches-at.ensures.seen marks ends (λ _. h) ok

@@ -53,6 +53,6 @@ returns-clause-reads c = λ bytes more h r.
     record {
       count = omega (arith, k.count, length-append bytes more, end, r.long, c.requires.start);
       outcome =
-          (going c.reader_is_grammar.ensures.first_fault a.settings a.start (a.start + a.count) bytes more c.in-Going.state a.stack c.read_run.new.stack c.in_ok-self-inside.field-0
+          (going c.reader_and_grammar.ensures.first_fault a.settings a.start (a.start + a.count) bytes more c.in-Going.state a.stack c.read_run.new.stack c.in_ok-self-inside.field-0
           (ap (λ n. a.start + n) k.count) (omega (arith, fit, r.long, c.requires.start)) here goes).outcome;
     }

@@ -11,5 +11,5 @@ returns c = record {
   elements = λ bytes h starts low.
       let limit = c.args.self.before.outcomes.depth in
       subst (λ (es : List JudgedElement). AllZip (IsJudgedElement limit) (elements c.args.by bytes) es) (sym c.all_moved.ensures)
-      (behind_moved c.reader_is_grammar.ensures.verdict limit c.args.by bytes c.in_ok-elements.elements.items starts low (c.in_ok-elements.ensures.elements bytes h));
+      (behind_moved c.reader_and_grammar.ensures.verdict limit c.args.by bytes c.in_ok-elements.elements.items starts low (c.in_ok-elements.ensures.elements bytes h));
 }

@@ -32,6 +32,6 @@ returns-in-Some-clause-of c bytes h =
     let low : c.args.by + (c.self-inside.inside.0.0.before.outcomes.start + length bytes) < 2 ^ 64 = omega (arith, start, last, fits) in (
       c.shifted-before.ensures.of _ k.0,
       subst (λ (n : ℕ). AreMarked n (after_separators c.shifted-before.result.outcomes.start bytes) c.shifted_behind.result) (sym c.shifted-before.ensures.depth)
-          (marked_shifts c.reader_is_grammar.ensures.verdict c.self-inside.inside.0.0.before.outcomes.depth c.args.by c.self-inside.inside.0.0.before.outcomes.start c.shifted-before.result.outcomes.start bytes _ c.shifted_behind.result low
+          (marked_shifts c.reader_and_grammar.ensures.verdict c.self-inside.inside.0.0.before.outcomes.depth c.args.by c.self-inside.inside.0.0.before.outcomes.start c.shifted-before.result.outcomes.start bytes _ c.shifted_behind.result low
           c.shifted-before.ensures.start k.1 c.shifted_behind.ensures.done c.shifted_behind.ensures.start c.shifted_behind.ensures.depth c.shifted_behind.ensures.after),
     )

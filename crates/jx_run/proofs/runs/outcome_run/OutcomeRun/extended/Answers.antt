@@ -19,7 +19,7 @@ returns-in-None-clause-within c =
     let start = ap (λ (v : OutcomeRunValue). v.start) c.right.view_is in
     let end = ap (λ (v : OutcomeRunValue). v.end) c.right.view_is in
     let mid = c.requires.neighbours in
-    subst (IsFormWithin l.depth l.start r.end) (sym c.in_ok-marks.ensures) (stays_within c.structures_lie_in_spans.ensures.wider l.depth l.start l.end r.end c.structure.result.now c.structure.ensures.within (omega (arith, order, start, end, mid)))
+    subst (IsFormWithin l.depth l.start r.end) (sym c.in_ok-marks.ensures) (stays_within c.spans_of_structures.ensures.wider l.depth l.start l.end r.end c.structure.result.now c.structure.ensures.within (omega (arith, order, start, end, mid)))
 
 pub extended-requires-clause-before : goal.extended-requires-clause-before
 extended-requires-clause-before c =
@@ -27,7 +27,7 @@ extended-requires-clause-before c =
     let r = c.args.right.now in
     let b = c.structure-in-Some.result.now in
     subst (λ f. IsBefore f b) (sym c.in_ok-marks.ensures)
-    (c.structures_lie_in_spans.ensures.before l.start l.end r.end c.structure.result.now b c.structure.ensures.within.offsets
+    (c.spans_of_structures.ensures.before l.start l.end r.end c.structure.result.now b c.structure.ensures.within.offsets
     (subst (λ m. SpansIn m r.end b) (sym c.requires.neighbours) c.structure-in-Some.ensures.within.offsets))
 
 pub returns-in_ok-joined-in-Some-clause-made : goal.returns-in_ok-joined-in-Some-clause-made
@@ -50,6 +50,6 @@ returns-in_ok-joined-in-Some-clause-within c =
     let low = c.structure.ensures.order in
     let high = c.structure-in-Some.ensures.order in
     let mid = c.requires.neighbours in
-    joined_within c.structures_lie_in_spans.ensures.wider l.depth l.start l.end r.end a b c.in_ok-joined-in-Some.joined c.structure.ensures.within
+    joined_within c.spans_of_structures.ensures.wider l.depth l.start l.end r.end a b c.in_ok-joined-in-Some.joined c.structure.ensures.within
     (right_within l.depth r.depth l.end r.start r.end b c.requires.depth c.requires.neighbours c.structure-in-Some.ensures.within) low (omega (arith, high, mid))
     (subst (λ f. GoesOnWith f b c.in_ok-joined-in-Some.joined) c.in_ok-marks.ensures goes)

@@ -25,7 +25,7 @@ loop-place-preserved c =
           (joined_by left right c.all-states.result l.place (left.structures ++ l.joins.structures.items) (left.structures ++ news) l.transitions.items _ c.onward-exit.result.0 c.onward-exit.result.1
           c.in_ok-structure.structure (let t = c.loop-place-test.true in omega (arith, t)) c.all-states.ensures l.invariant.transitions
           (behind_above left.structures l.joins.structures.items news n.above) n.made_at
-          (all_within c.structures_lie_in_spans.ensures.wider left right news (subst IsWellFormed c.self.view_is c.self.invariant) c.requires.neighbours (omega (arith, order, start, end)) n.within)
+          (all_within c.spans_of_structures.ensures.wider left right news (subst IsWellFormed c.self.view_is c.self.invariant) c.requires.neighbours (omega (arith, order, start, end)) n.within)
           c.onward-exit.ensures.goes);
     }
 
@@ -35,5 +35,5 @@ returns-clause-within c =
     let order = c.right.invariant.order in
     let start = ap (λ (v : OutcomeRunValue). v.start) c.right.view_is in
     let end = ap (λ (v : OutcomeRunValue). v.end) c.right.view_is in
-    all_within c.structures_lie_in_spans.ensures.wider c.args.self.now c.args.right.now l.joins.structures.items (subst IsWellFormed c.self.view_is c.self.invariant) c.requires.neighbours
+    all_within c.spans_of_structures.ensures.wider c.args.self.now c.args.right.now l.joins.structures.items (subst IsWellFormed c.self.view_is c.self.invariant) c.requires.neighbours
     (omega (arith, order, start, end)) l.invariant.within

@@ -9,7 +9,7 @@ structures_shifted-requires c =
     let i = c.self.invariant in
     let end : c.self.inside.span.end ≡ c.args.self.end = ap (λ (v : OutcomeRunValue). v.end) c.self.view_is in
     let high = c.requires.fits in
-    record { fits = λ k d low. c.structures_lie_in_spans.ensures.wider c.self.inside.span.start c.self.inside.span.end 0 (2 ^ 64 - c.args.by) (get_or c.self.inside.structures.items k d) (omega arith) (omega (arith, end, high)) (i.within k d low).offsets }
+    record { fits = λ k d low. c.spans_of_structures.ensures.wider c.self.inside.span.start c.self.inside.span.end 0 (2 ^ 64 - c.args.by) (get_or c.self.inside.structures.items k d) (omega arith) (omega (arith, end, high)) (i.within k d low).offsets }
 
 pub invariant_of-result : goal.invariant_of-result
 invariant_of-result c =

@@ -13,5 +13,5 @@ returns c =
     record {
       verdict = λ bytes h.
           subst (Judged c.args.self.now.start bytes c.args.self.now.depth) (sym c.verdict_of.ensures)
-          (run_judged c.reader_is_grammar.ensures.verdict c.args.self.now e (entries_are c.args.self.now Gap w e.marks c.transition_from-transition.ensures.transition c.structure-structure.ensures.structure) bytes h);
+          (run_judged c.reader_and_grammar.ensures.verdict c.args.self.now e (entries_are c.args.self.now Gap w e.marks c.transition_from-transition.ensures.transition c.structure-structure.ensures.structure) bytes h);
     }

@@ -15,5 +15,5 @@ returns c =
     record {
       verdict = λ xs ys h k.
           subst (Judged l.start (xs ++ ys) l.depth) (sym c.verdict_of.ensures)
-          (judged_through c.reader_is_grammar.ensures.verdict l r e j onward.from.1 (onward.goes e c.in_ok-structure.structure onward.from.1 made.within.depth made.made) c.requires.depth c.requires.neighbours xs ys h k);
+          (judged_through c.reader_and_grammar.ensures.verdict l r e j onward.from.1 (onward.goes e c.in_ok-structure.structure onward.from.1 made.within.depth made.made) c.requires.depth c.requires.neighbours xs ys h k);
     }

@@ -15,12 +15,12 @@ ends_in inside now t e same is exit =
 pub returns-in-Fault-clause-marks : goal.returns-in-Fault-clause-marks
 returns-in-Fault-clause-marks c xs ys h k =
     c.in_ok-marks.ensures.marks
-    ∙ sym (marks_through c.pieces_are_read_in_turn.ensures.two c.args.self.now c.args.right.now _ (ends_in _ c.args.self.now _ _ c.self.view_is c.entry.ensures.track c.in-Fault.ensures.value) c.requires.neighbours xs ys h k ∙ append-nil _)
+    ∙ sym (marks_through c.lex_of_two_parts.ensures.two c.args.self.now c.args.right.now _ (ends_in _ c.args.self.now _ _ c.self.view_is c.entry.ensures.track c.in-Fault.ensures.value) c.requires.neighbours xs ys h k ∙ append-nil _)
 
 pub returns-in-Fault-clause-ends : goal.returns-in-Fault-clause-ends
 returns-in-Fault-clause-ends c xs ys h k =
     c.in_ok-marks.ensures.ends
-    ∙ sym (ends_through c.pieces_are_read_in_turn.ensures.two c.args.self.now c.args.right.now _ (ends_in _ c.args.self.now _ _ c.self.view_is c.entry.ensures.track c.in-Fault.ensures.value) c.requires.neighbours xs ys h k ∙ append-nil _)
+    ∙ sym (ends_through c.lex_of_two_parts.ensures.two c.args.self.now c.args.right.now _ (ends_in _ c.args.self.now _ _ c.self.view_is c.entry.ensures.track c.in-Fault.ensures.value) c.requires.neighbours xs ys h k ∙ append-nil _)
 
 pub returns-in_ok-extend_from_slice-in-State-2-clause-marks :
     goal.returns-in_ok-extend_from_slice-in-State-2-clause-marks
@@ -29,7 +29,7 @@ returns-in_ok-extend_from_slice-in-State-2-clause-marks c xs ys h k =
     c.in_ok-extend_from_slice-in-State.ensures.items
     ∙ ap (λ ms. ms ++ c.deref.result.now) c.in_ok-marks.ensures.marks
     ∙ ap (λ ms. own ++ ms) (c.deref.ensures.value ∙ c.in_ok-more_marks-in-State.ensures.marks)
-    ∙ sym (marks_through c.pieces_are_read_in_turn.ensures.two c.args.self.now c.args.right.now _ (ends_in _ c.args.self.now _ _ c.self.view_is c.entry.ensures.track c.in-State.ensures.value) c.requires.neighbours xs ys h k)
+    ∙ sym (marks_through c.lex_of_two_parts.ensures.two c.args.self.now c.args.right.now _ (ends_in _ c.args.self.now _ _ c.self.view_is c.entry.ensures.track c.in-State.ensures.value) c.requires.neighbours xs ys h k)
 
 pub returns-in_ok-extend_from_slice-in-State-2-clause-ends :
     goal.returns-in_ok-extend_from_slice-in-State-2-clause-ends
@@ -38,4 +38,4 @@ returns-in_ok-extend_from_slice-in-State-2-clause-ends c xs ys h k =
     c.in_ok-extend_from_slice-in-State-2.ensures.items
     ∙ ap (λ es. es ++ c.deref-in-State.result.now) c.in_ok-marks.ensures.ends
     ∙ ap (λ es. own ++ es) (c.deref-in-State.ensures.value ∙ c.in_ok-more_marks-in-State.ensures.ends)
-    ∙ sym (ends_through c.pieces_are_read_in_turn.ensures.two c.args.self.now c.args.right.now _ (ends_in _ c.args.self.now _ _ c.self.view_is c.entry.ensures.track c.in-State.ensures.value) c.requires.neighbours xs ys h k)
+    ∙ sym (ends_through c.lex_of_two_parts.ensures.two c.args.self.now c.args.right.now _ (ends_in _ c.args.self.now _ _ c.self.view_is c.entry.ensures.track c.in-State.ensures.value) c.requires.neighbours xs ys h k)

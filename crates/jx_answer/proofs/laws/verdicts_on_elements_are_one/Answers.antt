@@ -1,8 +1,0 @@
-use Rattle.jx_answer.proofs.Ones.{all_judged_by, one_judged}
-use Rattle.jx_answer.proofs.laws.verdicts_on_elements_are_one.Goals as goal
-
-pub returns-clause-within_a_depth : goal.returns-clause-within_a_depth
-returns-clause-within_a_depth c = λ input depth xs ys h k. one_judged c.text_has_one_tree.ensures.one_tree c.verdict_is_one.ensures.one_verdict input depth xs ys h k
-
-pub returns-clause-by_settings : goal.returns-clause-by_settings
-returns-clause-by_settings c = λ settings input xs ys h k. all_judged_by c.text_has_one_tree.ensures.one_tree c.verdict_is_one.ensures.one_verdict settings input xs ys h k

@@ -1,0 +1,14 @@
+use Rattle.std.proofs.Common.{◌∙◌, refl, bit_or, arith}
+use Rattle.std.proofs.lemmas.Simd.{zip2_splat, zip2_of_maps}
+use Rattle.jx_block.specs.inside.Planes.{is_space}
+use Rattle.jx_lex.proofs.Lanes.{masked, lanes_mask}
+use Rattle.jx_block.proofs.planes.spaces.Goals as goal
+
+pub returns : goal.returns
+returns c =
+    let v = c.args.block in
+    let long = c.fits-block.0 in
+    masked (zip2_of_maps bit_or _ _ v
+    (zip2_of_maps bit_or _ _ v
+    (zip2_splat _ v 64 0x20 long) (zip2_splat _ v 64 0x0a long)) (zip2_splat _ v 64 0x0d long))
+    ∙ lanes_mask 64 (omega arith) _ is_space v long c.fits-block.1 refl

@@ -1,0 +1,14 @@
+pub mod AnyNames
+pub mod FileParts
+pub mod HeldChunks
+pub mod IndexSavings
+pub mod NeededChunks
+pub mod PlaceLineSteps
+pub mod PlaceReports
+pub mod SavedReadings
+pub mod Splits
+pub mod Tokens
+pub mod ValueLineSteps
+pub mod ValueReports
+pub mod ValueSteps
+pub mod Walks

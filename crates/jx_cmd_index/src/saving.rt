@@ -1,0 +1,120 @@
+// The state of an input whose index is saved, while it is read.
+ghost use Rattle.std.specs.Prelude.{◌≡◌, ◌++◌, [], ℕ, List, IfOk, OnOk};
+ghost use Rattle.jx_run.specs.declared.texts.settings.NameRule.TheVariants.{Unique};
+ghost use Rattle.jx_run.specs.declared.texts.settings.Settings.{Settings};
+ghost use Rattle.jx_file_index.specs.Index.{IsIndexOf};
+ghost use Rattle.jx_cmd_index.specs.inside.Saving.{Comes, IsByNames, IsSavingOf, any_names};
+
+use jx_file_build::Indexer;
+use jx_file_index::{ChunkSize, Index};
+use jx_names::NamesReader;
+use jx_run::{NameRule, Refusal, Settings, Verdict, unique_verdict_by_settings};
+use std::alloc::{AllocError, Global};
+
+/// The state of an input that is read.
+#[derive(Drop)]
+pub(crate) enum Saving {
+    /// The index of a text.
+    Any(Indexer),
+    /// The same of a text whose names have to be unique.
+    Unique {
+        indexer: Indexer,
+        names: NamesReader,
+    },
+}
+
+/// The same settings, but for the names, which may be any.
+fn any_names(settings: &Settings) -> Settings
+    ensures { result ≡ any_names settings.now }
+{
+    Settings {
+        depth: settings.depth,
+        mark: settings.mark,
+        names: NameRule::Any,
+    }
+}
+
+/// The index of a text whose names are unique, which says so.
+fn with_unique_names(index: Index) -> Index
+    ensures { (settings : Settings) (chunk : ℕ) (bytes : List ℕ) → settings.names ≡ Unique → IsIndexOf (any_names settings) chunk bytes index → IsIndexOf settings chunk bytes result }
+{
+    let Index {
+        settings,
+        chunk,
+        size,
+        entries,
+        top,
+    } = index;
+    Index {
+        settings: Settings {
+            depth: settings.depth,
+            mark: settings.mark,
+            names: NameRule::Unique,
+        },
+        chunk,
+        size,
+        entries,
+        top,
+    }
+}
+
+/// The result for a text whose names have this verdict.
+fn finish_by_names(indexer: Indexer, verdict: Verdict) -> Result<Result<Index, Refusal>, AllocError>
+    ensures { IfOk result (λ read. (settings : Settings) (chunk : ℕ) (bytes : List ℕ) → IsByNames settings chunk bytes indexer verdict → Comes settings chunk bytes read) }
+{
+    unique_verdict_by_settings();
+    match verdict {
+        Verdict::Refused(refusal) => Ok(Err(refusal)),
+        Verdict::Accepted => {
+            let read = indexer.finish()?;
+            match read {
+                Ok(index) => Ok(Ok(with_unique_names(index))),
+                Err(refusal) => Ok(Err(refusal)),
+            }
+        }
+    }
+}
+
+impl Saving {
+    /// Before the first byte.
+    pub fn new(alloc: Global, settings: &Settings, chunk: ChunkSize) -> Saving
+        ensures { IsSavingOf settings.now chunk [] result }
+    {
+        match settings.names {
+            NameRule::Any => Saving::Any(Indexer::new(alloc, settings, chunk)),
+            NameRule::Unique => Saving::Unique {
+                indexer: Indexer::new(alloc, &any_names(settings), chunk),
+                names: NamesReader::new(alloc, settings),
+            },
+        }
+    }
+
+    /// Reads a batch after what was read. It is also out of memory where the last byte has no offset.
+    pub fn feed(&mut self, batch: &[u8]) -> Result<(), AllocError>
+        ensures { OnOk result ((settings : Settings) (chunk : ℕ) (bytes : List ℕ) → IsSavingOf settings chunk bytes self.old → IsSavingOf settings chunk (bytes ++ batch.now) self.new) }
+    {
+        match self {
+            Saving::Any(indexer) => indexer.feed(batch),
+            Saving::Unique { indexer, names } => {
+                if batch.len() > usize::MAX - names.end() {
+                    return Err(AllocError);
+                }
+                names.feed(batch)?;
+                indexer.feed(batch)
+            }
+        }
+    }
+
+    /// The index of the text that all bytes read make, or why they are not a text.
+    pub fn finish(self) -> Result<Result<Index, Refusal>, AllocError>
+        ensures { IfOk result (λ read. (settings : Settings) (chunk : ℕ) (bytes : List ℕ) → IsSavingOf settings chunk bytes self → Comes settings chunk bytes read) }
+    {
+        match self {
+            Saving::Any(indexer) => indexer.finish(),
+            Saving::Unique { indexer, names } => {
+                let verdict = names.verdict()?;
+                finish_by_names(indexer, verdict)
+            }
+        }
+    }
+}

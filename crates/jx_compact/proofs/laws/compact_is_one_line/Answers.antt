@@ -1,6 +1,0 @@
-use Rattle.jx_compact.specs.declared.place.Place.TheVariants.{Between}
-use Rattle.jx_compact.proofs.Compacts.{one_line}
-use Rattle.jx_compact.proofs.laws.compact_is_one_line.Goals as goal
-
-pub returns : goal.returns
-returns c = one_line Between

@@ -1,6 +1,0 @@
-use Rattle.jx_each.proofs.Dues.{more_due}
-use Rattle.jx_each.specs.declared.content.LineContent.TheVariants.{Alone}
-use Rattle.jx_each.proofs.laws.due_grows.Goals as goal
-
-pub returns : goal.returns
-returns c = record { grows = more_due {content = Alone}; grows_by = λ content. more_due {content = content} }

@@ -1,0 +1,9 @@
+pub mod Counted
+pub mod Feedings
+pub mod Filling
+pub mod Fitting
+pub mod Gathering
+pub mod NamesFed
+pub mod NamesRead
+pub mod Readings
+pub mod Tallies

@@ -1,0 +1,20 @@
+use Rattle.std.proofs.Common.{List, ℕ, [], arith, refl, subst, sym}
+use Rattle.jx_file_build.specs.inside.NamedChunks.{AreHeld}
+use Rattle.jx_file_build.proofs.NamesFed.{part_none}
+use Rattle.jx_file_build.proofs.names_maker.NamesMaker.new.Goals as goal
+
+pub returns : goal.returns
+returns c =
+    let settings = c.args.settings.now in
+    let chunk = c.args.chunk in
+    record {
+      fed = record {
+        chunk_is = refl;
+        kept = c.new.result;
+        kept_is = refl;
+        held =
+            subst (λ (xs : List ℕ). AreHeld settings chunk [] c.new.result xs) (sym c.new-2.ensures.items)
+            (part_none settings chunk c.new.result (c.new.ensures.are chunk) (let low = c.bytes.ensures.within.0 in let is = c.bytes.ensures.value in omega (arith, low, is)));
+        fits = c.new.ensures.fits;
+      };
+    }

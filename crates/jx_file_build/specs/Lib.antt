@@ -1,0 +1,5 @@
+pub mod FedNames
+pub mod Held
+pub mod Indexer
+pub mod inside
+pub mod NamesIfAsked

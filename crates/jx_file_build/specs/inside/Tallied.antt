@@ -1,0 +1,20 @@
+-- The tally of the tokens of a chunk.
+use Rattle.std.specs.Prelude.{◌≡◌, ℕ, List, Bool}
+use Rattle.jx_lex.specs.declared.alphabet.mark.Mark.{Mark}
+use Rattle.jx_reduce.specs.KnownStack.{Known, IsFault}
+use Rattle.jx_reduce.specs.Read.{read}
+use Rattle.jx_file_index.specs.declared.sum.Sum.{Sum}
+use Rattle.jx_file_index.specs.Chunks.{has_some}
+use Rattle.jx_file_index.specs.Sums.{sum_of}
+
+-- these are what token starts and ends lead to
+pub record Tells (marks : List Mark) (ends : List ℕ) (sum : Sum) (begins ended : Bool) : Type 0 where
+  pub sum_is : sum ≡ sum_of marks
+  pub begins_is : begins ≡ has_some marks
+  pub ends_is : ended ≡ has_some ends
+
+-- after an earlier stack; after a fault of the token starts the tally is ignored
+pub record HasTallied (earlier : Known) (marks : List Mark) (ends : List ℕ) (stack : Known) (sum : Sum) (begins ended : Bool) : Type 0 where
+  pub depth : stack.depth ≡ earlier.depth
+  pub reading : stack.reading ≡ read earlier.depth marks earlier.reading
+  pub told : (IsFault stack.reading → ⊥) → Tells marks ends sum begins ended

@@ -1,0 +1,18 @@
+// What stands open of a text between two chunks.
+use jx_lex::Mark;
+use jx_reduce::KnownStack;
+
+/// The open containers. Also a token that has begun, and of a name the bytes so far.
+#[derive(Drop)]
+pub struct Standing {
+    pub stack: KnownStack,
+    pub begun: Option<Mark>,
+    pub name: Vec<u8>,
+}
+
+/// What stands open after a chunk, and the hashes of its names.
+#[derive(Drop)]
+pub struct ToldChunk {
+    pub standing: Standing,
+    pub hashes: Vec<u32>,
+}

@@ -1,0 +1,9 @@
+pub mod Counts
+pub mod Decodings
+pub mod IndexLengths
+pub mod LevelSteps
+pub mod Searches
+pub mod Spellings
+pub mod SumCounts
+pub mod Sums
+pub mod TextDecodings

@@ -1,0 +1,13 @@
+pub mod Chunks
+pub mod Digest
+pub mod Index
+pub mod inside
+pub mod Named
+pub mod NameHash
+pub mod Names
+pub mod NameTables
+pub mod Saved
+pub mod SavedTexts
+pub mod Spelling
+pub mod Sums
+pub mod TextSpelling

@@ -1,0 +1,16 @@
+pub mod Chunks
+pub mod Cuts
+pub mod Hashes
+pub mod HeldAt
+pub mod Holding
+pub mod inside
+pub mod Known
+pub mod Members
+pub mod PartLaws
+pub mod Parts
+pub mod Passed
+pub mod Passing
+pub mod PausedSplits
+pub mod PausedWalks
+pub mod Split
+pub mod Walk

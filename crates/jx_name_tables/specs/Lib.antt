@@ -1,4 +1,0 @@
-pub mod Hash
-pub mod Named
-pub mod Names
-pub mod Tables

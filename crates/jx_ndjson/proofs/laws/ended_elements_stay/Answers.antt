@@ -1,5 +1,0 @@
-use Rattle.jx_ndjson.proofs.Sequences.{elements_begin, elements_stay}
-use Rattle.jx_ndjson.proofs.laws.ended_elements_stay.Goals as goal
-
-pub returns : goal.returns
-returns c = record { stay = elements_stay; all = elements_begin }

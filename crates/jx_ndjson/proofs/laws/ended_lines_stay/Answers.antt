@@ -1,5 +1,0 @@
-use Rattle.jx_ndjson.proofs.LineLaws.{ended_stay}
-use Rattle.jx_ndjson.proofs.laws.ended_lines_stay.Goals as goal
-
-pub returns : goal.returns
-returns c = record { stay = ended_stay }

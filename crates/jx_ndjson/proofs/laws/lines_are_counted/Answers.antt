@@ -1,5 +1,0 @@
-use Rattle.jx_ndjson.proofs.LineLaws.{count_is, number_is}
-use Rattle.jx_ndjson.proofs.laws.lines_are_counted.Goals as goal
-
-pub returns : goal.returns
-returns c = record { count = count_is; numbers = number_is }

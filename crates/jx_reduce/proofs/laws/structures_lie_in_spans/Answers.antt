@@ -1,5 +1,0 @@
-use Rattle.jx_reduce.proofs.Structures.{spans_before, spans_wider}
-use Rattle.jx_reduce.proofs.laws.structures_lie_in_spans.Goals as goal
-
-pub returns : goal.returns
-returns c = record { wider = spans_wider; before = spans_before }

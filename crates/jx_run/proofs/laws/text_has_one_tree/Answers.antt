@@ -1,5 +1,0 @@
-use Rattle.jx_run.proofs.LawProofs.{tree_law}
-use Rattle.jx_run.proofs.laws.text_has_one_tree.Goals as goal
-
-pub returns : goal.returns
-returns c = record { one_tree = tree_law (record { reads = c.tokens_are_read.ensures.reads; tokens = c.tokens_are_read.ensures.tokens; stays = c.tokens_are_read.ensures.stays; steps = c.tokens_are_read.ensures.steps; gaps = c.tokens_are_read.ensures.gaps }) }

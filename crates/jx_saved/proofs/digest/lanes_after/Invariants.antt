@@ -1,6 +1,0 @@
-use Rattle.std.proofs.Common.{◌≡◌}
-use Rattle.jx_saved.specs.Digest.{lanes_after}
-use Rattle.jx_saved.proofs.digest.lanes_after.Given as goal
-
-abbrev pub invariant-stripes : goal.invariant-stripes
-invariant-stripes l = l.lanes ≡ lanes_after l.bytes l.n

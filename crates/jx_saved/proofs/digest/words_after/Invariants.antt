@@ -1,6 +1,0 @@
-use Rattle.std.proofs.Common.{◌≡◌}
-use Rattle.jx_saved.specs.Digest.{words_after}
-use Rattle.jx_saved.proofs.digest.words_after.Given as goal
-
-abbrev pub invariant-words : goal.invariant-words
-invariant-words l = l.read ≡ words_after l.bytes l.at l.hash l.n

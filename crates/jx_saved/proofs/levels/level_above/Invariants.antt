@@ -1,9 +1,0 @@
-use Rattle.std.proofs.Common.{◌≡◌, length}
-use Rattle.jx_saved.specs.Index.{joined_of}
-use Rattle.jx_saved.proofs.levels.level_above.Given as goal
-
-abbrev pub invariant-joins : goal.invariant-joins
-invariant-joins l = record {
-  joined : l.above.items ≡ joined_of l.level l.n;
-  count : length l.above.items ≡ l.n;
-}

@@ -1,9 +1,0 @@
-pub mod Chunks
-pub mod Digest
-pub mod Held
-pub mod Index
-pub mod Indexer
-pub mod inside
-pub mod Saved
-pub mod Spelling
-pub mod Sums

@@ -1,3 +1,0 @@
--- Definitions that only the contracts of this crate's own functions cite.
-pub mod Decoded
-pub mod Tallied

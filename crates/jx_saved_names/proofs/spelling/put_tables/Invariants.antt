@@ -1,7 +1,0 @@
-use Rattle.std.proofs.Common.{◌≡◌, ◌++◌, take}
-use Rattle.std.specs.List.{flat_map}
-use Rattle.jx_saved_names.specs.Spelling.{spelt_table}
-use Rattle.jx_saved_names.proofs.spelling.put_tables.Given as goal
-
-abbrev pub invariant-loop-table : goal.invariant-loop-table
-invariant-loop-table l = l.out.items ≡ l.initial.out.items ++ flat_map spelt_table (take l.table-index l.tables)

@@ -1,5 +1,0 @@
-pub mod Fed
-pub mod IfAsked
-pub mod inside
-pub mod Saved
-pub mod Spelling

@@ -1,4 +1,0 @@
--- What the contracts of this crate's own functions cite, and no public one.
-pub mod Blocks
-pub mod Chunk
-pub mod Chunks

@@ -1,2 +1,0 @@
-pub mod AnyNames
-pub mod Batches

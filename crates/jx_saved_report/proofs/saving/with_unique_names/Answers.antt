@@ -1,5 +1,0 @@
-use Rattle.jx_saved_report.proofs.AnyNames.{unique_index}
-use Rattle.jx_saved_report.proofs.saving.with_unique_names.Goals as goal
-
-pub returns : goal.returns
-returns c = λ settings chunk bytes unique is. unique_index settings chunk bytes c.args.index unique is

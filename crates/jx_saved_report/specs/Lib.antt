@@ -1,3 +1,0 @@
-pub mod inside
-pub mod Output
-pub mod Reports

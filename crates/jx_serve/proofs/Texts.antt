@@ -1,0 +1,161 @@
+-- The words of messages are such values.
+use Rattle.std.proofs.Common.{◌≡◌, ℕ, suc, ◌-◌, Bool, true, false, List, [], ◌∷◌, ◌++◌, append_assoc, append-nil, decimal, codes, refl, sym, ap, subst, ◌∙◌, inl, inr, ◌⊎◌, ◌^◌, ◌<◌, ◌≤◌, arith}
+use Rattle.std.specs.Prelude.{OnOk, Result, Ok, Err}
+use Rattle.jx_lex.specs.Token.{IsString, IsNumber}
+use Rattle.jx_run.specs.Settings.{IsDocumentBy}
+use Rattle.jx_run.specs.Text.{document}
+use Rattle.jx_run.specs.Grammar.{no_blanks}
+use Rattle.jx_run.specs.declared.texts.verdict.Verdict.TheVariants.{Accepted}
+use Rattle.jx_index.specs.ByNames.{IsVerdictBy, a_text}
+use Rattle.jx_serve.specs.Messages.{message_settings}
+use Rattle.jx_serve.specs.inside.Sound.{AreItems, AreMembers, IsValue, IsWhole, IsHead, IsList, IsBegun, IsPlain, IsPlainValue, AreDistinct, AddsHead, AddsNamed, AddsString, AreOpen, closings, is_natural, list_head}
+use Rattle.jx_serve.proofs.Sounds.{a_string, a_number, members_end, members_on, an_object, an_array, decimal_plain, distinct_by, natural_number, no_items, plain_string}
+use Rattle.jx_serve.proofs.Opens.{all_closed}
+use Rattle.jx_serve.proofs.Uniques.{never_repeated}
+
+five : (a b c d e rest : List ℕ) → a ++ (b ++ (c ++ (d ++ (e ++ rest)))) ≡ ((((a ++ b) ++ c) ++ d) ++ e) ++ rest
+five a b c d e rest =
+    sym (append_assoc (((a ++ b) ++ c) ++ d) e rest ∙ append_assoc ((a ++ b) ++ c) d (e ++ rest) ∙ append_assoc (a ++ b) c (d ++ (e ++ rest)) ∙ append_assoc a b (c ++ (d ++ (e ++ rest))))
+
+pub position_value : (limit : ℕ) (line character : List ℕ) → IsNumber line → IsNumber character
+    → IsWhole (suc limit) ((((codes "{\"line\":" ++ line) ++ codes ",\"character\":") ++ character) ++ codes "}")
+position_value limit line character l h rest =
+    subst (λ b. IsValue (suc limit) b rest) (five (codes "{\"line\":") line (codes ",\"character\":") character (codes "}") rest)
+    (an_object limit (codes "line" ∷ codes "character" ∷ []) _ rest (distinct_by (codes "line" ∷ codes "character" ∷ []) refl)
+    (members_on limit (codes "character" ∷ []) (codes "\"line\"") (codes "line") (line ++ (codes ",\"character\":" ++ (character ++ (codes "}" ++ rest)))) _ _ (plain_string (codes "line") refl) (a_number limit line _ l)
+    (members_end limit (codes "\"character\"") (codes "character") (character ++ (codes "}" ++ rest)) _ (plain_string (codes "character") refl) (a_number limit character _ h))))
+
+pub ends_value : (limit : ℕ) (start end : List ℕ) → IsWhole limit start → IsWhole limit end
+    → IsWhole (suc limit) ((((codes "{\"start\":" ++ start) ++ codes ",\"end\":") ++ end) ++ codes "}")
+ends_value limit start end s e rest =
+    subst (λ b. IsValue (suc limit) b rest) (five (codes "{\"start\":") start (codes ",\"end\":") end (codes "}") rest)
+    (an_object limit (codes "start" ∷ codes "end" ∷ []) _ rest (distinct_by (codes "start" ∷ codes "end" ∷ []) refl)
+    (members_on limit (codes "end" ∷ []) (codes "\"start\"") (codes "start") (start ++ (codes ",\"end\":" ++ (end ++ (codes "}" ++ rest)))) _ _ (plain_string (codes "start") refl) (s _)
+    (members_end limit (codes "\"end\"") (codes "end") (end ++ (codes "}" ++ rest)) _ (plain_string (codes "end") refl) (e _))))
+
+-- ---- an answer
+
+pub accepted : (w : List ℕ) → IsWhole 512 w → IsVerdictBy message_settings w Accepted
+accepted w v =
+    let x = v [] (w ++ []) 0 refl in
+    subst (λ (t : List ℕ). IsVerdictBy message_settings t Accepted) (append-nil w)
+    (a_text {tree = x.tree}
+    (record { front = []; rest = w ++ []; is_front = refl; whole = refl; text = record { reads = document no_blanks x.reads no_blanks; within = x.within } })
+    (never_repeated (w ++ []) x.tree x.unique))
+
+answer_five : (a id b list e rest : List ℕ) → a ++ (id ++ (b ++ (list ++ (e ++ rest)))) ≡ ((((a ++ id) ++ b) ++ list) ++ e) ++ rest
+answer_five a id b list e rest = five a id b list e rest
+
+-- ---- a symbol
+
+pub symbol_head : (limit : ℕ) (name units kind range label : List ℕ) → IsString name units → IsNumber kind → IsWhole (suc (suc limit)) range → IsWhole (suc (suc limit)) label
+    → IsHead (suc limit) (codes "{\"name\":" ++ (name ++ (codes ",\"kind\":" ++ (kind ++ (codes ",\"range\":" ++ (range ++ (codes ",\"selectionRange\":" ++ (label ++ codes ",\"children\":["))))))))
+symbol_head limit name units kind range label s k r l items rest last =
+    subst (λ b. IsValue (suc (suc (suc limit))) b rest) nine
+    (an_object (suc (suc limit)) (codes "name" ∷ codes "kind" ∷ codes "range" ∷ codes "selectionRange" ∷ codes "children" ∷ []) _ rest distinct
+    (members_on (suc (suc limit)) _ (codes "\"name\"") (codes "name") (name ++ (codes ",\"kind\":" ++ (kind ++ (codes ",\"range\":" ++ (range ++ (codes ",\"selectionRange\":" ++ (label ++ (codes ",\"children\":[" ++ items)))))))) _ _ (plain_string (codes "name") refl) (a_string (suc (suc limit)) name units _ s)
+    (members_on (suc (suc limit)) _ (codes "\"kind\"") (codes "kind") (kind ++ (codes ",\"range\":" ++ (range ++ (codes ",\"selectionRange\":" ++ (label ++ (codes ",\"children\":[" ++ items)))))) _ _ (plain_string (codes "kind") refl) (a_number (suc (suc limit)) kind _ k)
+    (members_on (suc (suc limit)) _ (codes "\"range\"") (codes "range") (range ++ (codes ",\"selectionRange\":" ++ (label ++ (codes ",\"children\":[" ++ items)))) _ _ (plain_string (codes "range") refl) (r _)
+    (members_on (suc (suc limit)) _ (codes "\"selectionRange\"") (codes "selectionRange") (label ++ (codes ",\"children\":[" ++ items)) _ _ (plain_string (codes "selectionRange") refl) (l _)
+    (members_end (suc (suc limit)) (codes "\"children\"") (codes "children") (codes "[" ++ items) _ (plain_string (codes "children") refl) (children last)))))))
+  where
+    children : (items ≡ 0x5d ∷ 0x7d ∷ rest) ⊎ AreItems (suc limit) items (0x5d ∷ 0x7d ∷ rest) → IsValue (suc (suc limit)) (0x5b ∷ items) (0x7d ∷ rest)
+    children (inl e) = subst (λ (x : List ℕ). IsValue (suc (suc limit)) (0x5b ∷ x) (0x7d ∷ rest)) (sym e) (no_items (suc limit) (0x7d ∷ rest))
+    children (inr a) = an_array (suc limit) items (0x7d ∷ rest) a
+
+    nine : codes "{\"name\":" ++ (name ++ (codes ",\"kind\":" ++ (kind ++ (codes ",\"range\":" ++ (range ++ (codes ",\"selectionRange\":" ++ (label ++ (codes ",\"children\":[" ++ items))))))))
+        ≡ (codes "{\"name\":" ++ (name ++ (codes ",\"kind\":" ++ (kind ++ (codes ",\"range\":" ++ (range ++ (codes ",\"selectionRange\":" ++ (label ++ codes ",\"children\":[")))))))) ++ items
+    nine = sym (simp append_assoc refl)
+
+    distinct : AreDistinct (codes "name" ∷ codes "kind" ∷ codes "range" ∷ codes "selectionRange" ∷ codes "children" ∷ [])
+    distinct = distinct_by (codes "name" ∷ codes "kind" ∷ codes "range" ∷ codes "selectionRange" ∷ codes "children" ∷ []) refl
+
+-- ---- an answer that is a list
+
+raised : (low high : ℕ) (bytes rest : List ℕ) → low ≤ high → AreItems low bytes rest → AreItems high bytes rest
+raised low high bytes rest h v text i at =
+    let x = v text i at in
+    record { end = x.end; children = x.children; reads = x.reads; left = x.left; within = omega (arith, x.within, h); unique = x.unique }
+
+a_plain_value : (limit : ℕ) (id rest : List ℕ) → IsPlainValue id → IsValue limit (id ++ rest) rest
+a_plain_value limit id rest (inl n) = a_number limit id rest n
+a_plain_value limit id rest (inr p) = a_string limit id p.0 rest (subst (λ (w : List ℕ). IsString w p.0) (sym p.1.1) (plain_string p.0 p.1.0))
+
+with_list : (id list rest : List ℕ) → IsPlainValue id → IsValue 511 (0x5b ∷ list) (0x7d ∷ rest)
+    → IsValue 512 (codes "{\"jsonrpc\":\"2.0\",\"id\":" ++ (id ++ (codes ",\"result\":[" ++ list))) rest
+with_list id list rest p v =
+    an_object 511 (codes "jsonrpc" ∷ codes "id" ∷ codes "result" ∷ []) _ rest (distinct_by (codes "jsonrpc" ∷ codes "id" ∷ codes "result" ∷ []) refl)
+    (members_on 511 (codes "id" ∷ codes "result" ∷ []) (codes "\"jsonrpc\"") (codes "jsonrpc") (codes "\"2.0\",\"id\":" ++ (id ++ (codes ",\"result\":[" ++ list))) (codes "\"id\":" ++ (id ++ (codes ",\"result\":[" ++ list))) _ (plain_string (codes "jsonrpc") refl)
+    (a_string 511 (codes "\"2.0\"") (codes "2.0") _ (plain_string (codes "2.0") refl))
+    (members_on 511 (codes "result" ∷ []) (codes "\"id\"") (codes "id") (id ++ (codes ",\"result\":[" ++ list)) (codes "\"result\":[" ++ list) _ (plain_string (codes "id") refl) (a_plain_value 511 id _ p)
+    (members_end 511 (codes "\"result\"") (codes "result") (codes "[" ++ list) _ (plain_string (codes "result") refl) v)))
+
+pub list_answer : (id bytes : List ℕ) (none : Bool) → IsPlainValue id → IsBegun ((codes "{\"jsonrpc\":\"2.0\",\"id\":" ++ id) ++ codes ",\"result\":[") 201 none bytes
+    → IsWhole 512 (bytes ++ codes "]}")
+list_answer id bytes true p e rest =
+    let head : List ℕ = (codes "{\"jsonrpc\":\"2.0\",\"id\":" ++ id) ++ codes ",\"result\":[" in
+    let parts : codes "{\"jsonrpc\":\"2.0\",\"id\":" ++ (id ++ (codes ",\"result\":[" ++ (codes "]}" ++ rest))) ≡ (bytes ++ codes "]}") ++ rest =
+    sym (ap (λ (b : List ℕ). (b ++ codes "]}") ++ rest) e ∙ simp append_assoc refl) in
+    subst (λ (b : List ℕ). IsValue 512 b rest) parts (with_list id (codes "]}" ++ rest) rest p (no_items 510 (0x7d ∷ rest)))
+list_answer id bytes false p b rest =
+    let parts : codes "{\"jsonrpc\":\"2.0\",\"id\":" ++ (id ++ (codes ",\"result\":[" ++ (b.0 ++ (codes "]}" ++ rest)))) ≡ (bytes ++ codes "]}") ++ rest =
+    sym (ap (λ (x : List ℕ). (x ++ codes "]}") ++ rest) b.1.0 ∙ simp append_assoc refl) in
+    subst (λ (x : List ℕ). IsValue 512 x rest) parts
+    (with_list id (b.0 ++ (codes "]}" ++ rest)) rest p (an_array 510 (b.0 ++ (codes "]}" ++ rest)) (0x7d ∷ rest) (raised 201 510 _ _ (omega arith) (b.1.1 (codes "]}" ++ rest) (codes "]}" ++ rest) (inl refl)))))
+
+-- ---- what is added
+
+pub on_ok : {T E P : Type 0} (result : Result T E) → P → OnOk result P
+on_ok (Ok v) p = p
+on_ok (Err e) p = tt
+
+pub added_plain : (before after spelt : List ℕ) → IsPlain spelt → after ≡ before ++ spelt → AddsString before after
+added_plain before after spelt p e = record { name = spelt; units = p.0; is_string = subst (λ (w : List ℕ). IsString w p.0) (sym p.1.1) (plain_string p.0 p.1.0); whole = e }
+
+pub added_root : (before after : List ℕ) → after ≡ before ++ codes "\"root\"" → AddsString before after
+added_root before after e = record { name = codes "\"root\""; units = codes "root"; is_string = plain_string (codes "root") refl; whole = e }
+
+pub added_place : (before one two after : List ℕ) (place : ℕ) → place < 2 ^ 64 → one ≡ before ++ codes "\"" → two ≡ one ++ decimal place → after ≡ two ++ codes "\"" → AddsString before after
+added_place before one two after place fits e f g = record {
+  name = 0x22 ∷ (decimal place ++ (0x22 ∷ []));
+  units = decimal place;
+  is_string = plain_string (decimal place) (decimal_plain place fits);
+  whole = g ∙ ap (λ b. b ++ codes "\"") (f ∙ ap (λ b. b ++ decimal place) e) ∙ simp append_assoc refl;
+}
+
+grouped : (o a b c d e : List ℕ) → ((((o ++ a) ++ b) ++ c) ++ d) ++ e ≡ o ++ ((((a ++ b) ++ c) ++ d) ++ e)
+grouped o a b c d e =
+    ap (λ x. ((x ++ c) ++ d) ++ e) (append_assoc o a b) ∙ ap (λ x. (x ++ d) ++ e) (append_assoc o (a ++ b) c) ∙ ap (λ x. x ++ e) (append_assoc o ((a ++ b) ++ c) d) ∙ append_assoc o (((a ++ b) ++ c) ++ d) e
+
+pub added_named : (before one two three four after kind : List ℕ) → one ≡ before ++ codes "{\"name\":" → AddsString one two → three ≡ two ++ codes ",\"kind\":" → four ≡ three ++ kind → is_natural kind ≡ true
+    → after ≡ four ++ codes "," → AddsNamed before after
+added_named before one two three four after kind e s f g k h = record {
+  name = s.name;
+  units = s.units;
+  kind = kind;
+  is_string = s.is_string;
+  is_kind = natural_number kind k;
+  whole =
+      h ∙ ap (λ b. b ++ codes ",") (g ∙ ap (λ b. b ++ kind) (f ∙ ap (λ b. b ++ codes ",\"kind\":") (s.whole ∙ ap (λ b. b ++ s.name) e)))
+      ∙ grouped before (codes "{\"name\":") s.name (codes ",\"kind\":") kind (codes ",");
+}
+
+-- a symbol's beginning, of which the ranges are values
+pub added_head : (before named mid ranged labelled ended after extent label : List ℕ) → AddsNamed before named → mid ≡ named ++ codes "\"range\":" → ranged ≡ mid ++ extent → ((limit : ℕ) → IsWhole (suc (suc limit)) extent)
+    → labelled ≡ ranged ++ codes ",\"selectionRange\":" → ended ≡ labelled ++ label → ((limit : ℕ) → IsWhole (suc (suc limit)) label) → after ≡ ended ++ codes ",\"children\":[" → AddsHead before after
+added_head before named mid ranged labelled ended after extent label n m r x l d y c = record {
+  head = codes "{\"name\":" ++ (n.name ++ (codes ",\"kind\":" ++ (n.kind ++ (codes ",\"range\":" ++ (extent ++ (codes ",\"selectionRange\":" ++ (label ++ codes ",\"children\":[")))))));
+  is_head = λ limit. symbol_head limit n.name n.units n.kind extent label n.is_string n.is_kind (x limit) (y limit);
+  whole =
+      c ∙ ap (λ b. b ++ codes ",\"children\":[") (d ∙ ap (λ b. b ++ label) (l ∙ ap (λ b. b ++ codes ",\"selectionRange\":") (r ∙ ap (λ b. b ++ extent) (m ∙ ap (λ b. b ++ codes "\"range\":") n.whole))))
+      ∙ simp append_assoc refl;
+}
+
+pub answered : (id bytes ended after : List ℕ) (n : ℕ) → IsPlainValue id → AreOpen (list_head id) n true bytes → ended ≡ bytes ++ closings (n - 0) → after ≡ ended ++ codes "]}" → IsWhole 512 after
+answered id bytes ended after n p o e a =
+    let x = all_closed (list_head id) n bytes o in
+    let whole : n - 0 ≡ n = omega arith in
+    subst (λ (b : List ℕ). IsWhole 512 b) (sym (a ∙ ap (λ (b : List ℕ). b ++ codes "]}") (e ∙ ap (λ (k : ℕ). bytes ++ closings k) whole))) (list_answer id (bytes ++ closings n) x.0 p x.1)
+
+pub headed : (o one two three id : List ℕ) → one ≡ o ++ codes "{\"jsonrpc\":\"2.0\",\"id\":" → two ≡ one ++ id → three ≡ two ++ codes ",\"result\":[" → three ≡ o ++ list_head id
+headed o one two three id a b c = c ∙ ap (λ l. l ++ codes ",\"result\":[") (b ∙ ap (λ l. l ++ id) a) ∙ simp append_assoc refl

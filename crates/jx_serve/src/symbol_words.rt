@@ -1,0 +1,149 @@
+// Values of a document as symbols, in messages.
+ghost use Rattle.std.specs.Prelude.{◌≡◌, true, IfOk, OnOk};
+ghost use Rattle.jx_serve.specs.inside.Sound.{is_natural, AddsNamed, AddsString};
+
+use crate::plain::plain_inside;
+use crate::symbols::{Outline, Symbol};
+use crate::value_words::{add_all, add_number, add_range, begin_list};
+use jx_index::Row;
+use jx_lex::Kind;
+use jx_wire::{StringFault, quoted, unescaped};
+use std::alloc::{AllocError, Global};
+use std::str;
+
+/// The number of a kind (Language Server Protocol 3.17, "SymbolKind").
+fn symbol_kind(kind: Kind) -> &'static [u8]
+    ensures { is_natural result.now ≡ true }
+{
+    match kind {
+        Kind::String => b"15",
+        Kind::Number => b"16",
+        Kind::True | Kind::False => b"17",
+        Kind::Array => b"18",
+        Kind::Object => b"19",
+        Kind::Null => b"21",
+    }
+}
+
+/// Whether a text has no other characters than those that editors count as white space.
+fn is_blank(text: &[u8]) -> bool {
+    let Ok(text) = str::from_utf8(text) else {
+        return false;
+    };
+    for character in text.chars() {
+        if !character.is_whitespace() && character != '\u{feff}' {
+            return false;
+        }
+    }
+    true
+}
+
+/// The name of a member as a string, as the text has it. Editors refuse a name of white space alone, so its quotation marks are shown
+/// too. Some refuse half of a surrogate pair, so the text's own encoding of it is shown.
+fn shown_name(alloc: Global, spelt: &[u8]) -> Result<Vec<u8>, AllocError> {
+    match unescaped(alloc, spelt) {
+        Ok(name) if is_blank(&name) => quoted(alloc, spelt),
+        Ok(_) => Vec::from_slice(alloc, spelt),
+        Err(StringFault::Memory) => Err(AllocError),
+        Err(StringFault::NoString | StringFault::LoneSurrogate) => {
+            let inside = spelt.get(1..spelt.len().saturating_sub(1));
+            quoted(alloc, inside.unwrap_or(spelt))
+        }
+    }
+}
+
+/// Adds the name of a member as a string, and returns whether it is known to be one.
+fn add_member_name(alloc: Global, out: &mut Vec<u8>, spelt: &[u8]) -> Result<bool, AllocError>
+    ensures { IfOk result (λ known. known ≡ true → AddsString out.old.items out.new.items) }
+{
+    match plain_inside(spelt) {
+        Some(inside) if !is_blank(inside) => {
+            out.extend_from_slice(spelt)?;
+            Ok(true)
+        }
+        _ => {
+            let name = shown_name(alloc, spelt)?;
+            out.extend_from_slice(&name)?;
+            Ok(false)
+        }
+    }
+}
+
+/// Adds the place of an element as a string.
+fn add_place(out: &mut Vec<u8>, place: usize) -> Result<(), AllocError>
+    ensures { OnOk result (AddsString out.old.items out.new.items) }
+{
+    out.extend_from_slice(b"\"")?;
+    add_number(out, place)?;
+    out.extend_from_slice(b"\"")?;
+    Ok(())
+}
+
+/// Adds the name of a value as a string: that of a member, or the place in an array. Returns whether it is known to be one.
+fn add_name(alloc: Global, out: &mut Vec<u8>, text: &[u8], row: &Row) -> Result<bool, AllocError>
+    ensures { IfOk result (λ known. known ≡ true → AddsString out.old.items out.new.items) }
+{
+    match row.name {
+        Some(span) => {
+            let spelt = text.get(span.start..span.end).unwrap_or(&[]);
+            add_member_name(alloc, out, spelt)
+        }
+        None if row.parent.is_none() => {
+            out.extend_from_slice(b"\"root\"")?;
+            Ok(true)
+        }
+        None => {
+            add_place(out, row.place)?;
+            Ok(true)
+        }
+    }
+}
+
+/// Begins a symbol: the name of a value and its kind, and the comma after them. Returns whether the name is known to be a string.
+pub(crate) fn add_named(
+    alloc: Global,
+    out: &mut Vec<u8>,
+    text: &[u8],
+    row: &Row,
+) -> Result<bool, AllocError>
+    ensures { IfOk result (λ known. known ≡ true → AddsNamed out.old.items out.new.items) }
+{
+    out.extend_from_slice(b"{\"name\":")?;
+    let known = add_name(alloc, out, text, row)?;
+    out.extend_from_slice(b",\"kind\":")?;
+    out.extend_from_slice(symbol_kind(row.kind))?;
+    out.extend_from_slice(b",")?;
+    Ok(known)
+}
+
+/// Adds a value as a `SymbolInformation`.
+fn add_symbol(
+    alloc: Global,
+    out: &mut Vec<u8>,
+    uri: &[u8],
+    text: &[u8],
+    symbol: &Symbol,
+) -> Result<(), AllocError> {
+    add_named(alloc, out, text, &symbol.row)?;
+    add_all(out, &[b"\"location\":{\"uri\":", uri, b","])?;
+    add_range(out, symbol.outer, symbol.end)?;
+    out.extend_from_slice(b"}}")
+}
+
+/// Adds the answer that lists values.
+pub(crate) fn add_outlined(
+    alloc: Global,
+    out: &mut Vec<u8>,
+    id: &[u8],
+    uri: &[u8],
+    outline: &Outline,
+) -> Result<(), AllocError> {
+    begin_list(out, id)?;
+    for (number, symbol) in outline.symbols.iter().enumerate() {
+        if 0 < number {
+            out.extend_from_slice(b",")?;
+        }
+        add_symbol(alloc, out, uri, &outline.text, symbol)?;
+    }
+    out.extend_from_slice(b"]}")
+}

@@ -1,8 +1,0 @@
-use Rattle.std.proofs.Common.{◌≡◌, sym, ◌∙◌}
-use Rattle.std.proofs.lemmas.Bool.{eqb-true}
-use Rattle.jx_split.proofs.Numbers.{between}
-use Rattle.jx_split.proofs.passing.is_in_part.Goals as goal
-
-pub returns-then-first-number : goal.returns-then-first-number
-returns-then-first-number c = λ same.
-    between c.args.aim c.args.number c.args.span (sym (c.in-Some-Some.ensures) ∙ c.if-first-number.true) (sym (c.in-Some-Some.ensures') ∙ eqb-true c.in-Some-Some.last c.args.number same)

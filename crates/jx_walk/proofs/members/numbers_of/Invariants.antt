@@ -1,8 +1,0 @@
-use Rattle.std.proofs.Common.{◌≡◌, take, map}
-use Rattle.jx_index.specs.declared.trie.Edge.{Edge}
-use Rattle.jx_index.specs.inside.Trie.{edge_units}
-use Rattle.jx_name_tables.specs.Hash.{name_hash}
-use Rattle.jx_walk.proofs.members.numbers_of.Given as goal
-
-abbrev pub invariant-loop-edge : goal.invariant-loop-edge
-invariant-loop-edge l = l.numbers.items ≡ map (λ (e : Edge). name_hash (edge_units e)) (take l.edge-index l.edges)

@@ -1,5 +1,0 @@
-use Rattle.jx_walk.proofs.Pieces.{entry_some}
-use Rattle.jx_walk.proofs.reaching.kept_of.Goals as goal
-
-pub returns-clause-kept : goal.returns-clause-kept
-returns-clause-kept c = entry_some c.args.index.now c.args.at c.args.span c.requires.here c.entry_at.result c.entry_at.ensures

@@ -1,5 +1,0 @@
-use Rattle.jx_walk.proofs.walk.Walk.pause.Goals as goal
-
-pub returns-clause-come : goal.returns-clause-come
-returns-clause-come c = λ settings chunk text pointers h.
-    record { known = h.known; pointers_are = h.pointers_are; trie = h.trie; ways = h.ways; kept = h.kept; kept_is = h.kept_is; held = h.held }

@@ -1,5 +1,0 @@
--- Definitions that only the contracts of this crate's own functions cite.
-pub mod Blocks
-pub mod Members
-pub mod Over
-pub mod Stretch

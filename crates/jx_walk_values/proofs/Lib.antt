@@ -1,4 +1,0 @@
-pub mod Chunks
-pub mod LineSteps
-pub mod Reports
-pub mod ValueSteps

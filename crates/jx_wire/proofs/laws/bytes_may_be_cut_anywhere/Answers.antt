@@ -1,8 +1,0 @@
-use Rattle.jx_wire.proofs.FrameSteps.{read_on-append, bodies-append}
-use Rattle.jx_wire.proofs.laws.bytes_may_be_cut_anywhere.Goals as goal
-
-pub returns-clause-read : goal.returns-clause-read
-returns-clause-read c = λ r xs ys. read_on-append r xs ys
-
-pub returns-clause-ended : goal.returns-clause-ended
-returns-clause-ended c = λ r xs ys. bodies-append r xs ys
