@@ -227,5 +227,7 @@ tests a_whole_answer_ends_with_status_0 \
     a_file_of_pointers_may_be_at_fault \
     files_and_pointers_are_taken_as_they_stand \
     an_option_that_is_given_twice_counts_as_it_stands_last \
+    words_that_are_no_pointers_are_refused_before_a_read \
+    each_asks_whether_a_word_is_a_file_or_a_pointer \
     runs_are_not_written_to_a_terminal \
     a_closed_pipe_ends_a_call_without_a_word

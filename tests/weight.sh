@@ -1,5 +1,6 @@
 #!/usr/bin/env bash
-# The weight of the gate: wrong bodies are not lost, in the gate or beside it; how many proved tests there may be, and where they may stand.
+# The weight of the gate: wrong bodies are not lost, in the gate or beside it; how many proved tests there may be, and where they may
+# stand; no function of a test is left out.
 . "$(dirname "$0")/lib.sh"
 
 # What the gate tries costs its time: a crate with wrong bodies is proved once more. So a few cheap crates have some there.
@@ -31,7 +32,26 @@ proved_tests_are_few() {
         "$(grep -rl '#\[test\]' --include='*.rt' "$root/crates" | sed "s|^$root/crates/||; s|/.*||" | sort -u | flat | sed 's/ $//')"
 }
 
+# uncalled FILE..: the functions of these tests that are named once, where they are defined: so nothing calls them.
+uncalled() {
+    local file name
+    for file in "$@"; do
+        for name in $(sed -n 's/^\([a-z_0-9]*\)() .*/\1/p' "$file"); do
+            if [ "$(grep -cw -- "$name" "$file")" -lt 2 ]; then echo "${file##*/}: $name"; fi
+        done
+    done
+}
+
+each_function_of_a_test_is_called() {
+    local tests
+    mapfile -t tests < <(find "$root/tests" -maxdepth 1 -name '*.sh' ! -name lib.sh)
+    same 'no function of a test is left out' '' "$(uncalled "${tests[@]}")"
+    printf 'lost() { :; }\nkept() { :; }\ntests kept\n' >lost.sh
+    same 'one that is left out is found' 'lost.sh: lost' "$(uncalled lost.sh)"
+}
+
 tests wrong_bodies_are_not_lost \
     wrong_bodies_can_be_put_in_their_places \
     how_many_were_refused_is_written_down \
-    proved_tests_are_few
+    proved_tests_are_few \
+    each_function_of_a_test_is_called
