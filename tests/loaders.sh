@@ -1,5 +1,5 @@
 #!/usr/bin/env bash
-# docs/LOADERS.md: each session that it shows is run by the real programs. PostgreSQL's server listens on a socket in this folder alone.
+# docs/LOADERS.md: each session that it shows is run by the real programs. Servers listen on sockets in this folder alone.
 . "$(dirname "$0")/lib.sh"
 
 # The programs of PostgreSQL's server, which Debian keeps off the PATH.
@@ -23,12 +23,53 @@ start_server() {
     if [ "$(id -u)" = 0 ]; then chown postgres pg; fi
     as_owner "$(server_programs)/initdb" -D "$room/pg/data" -A trust -U loader -E UTF8 --no-sync >initdb.log 2>&1 || return 1
     as_owner "$(server_programs)/pg_ctl" -D "$room/pg/data" -o "-k $room/pg -c listen_addresses= -F" -w start >start.log 2>&1 || return 1
-    trap 'as_owner "$(server_programs)/pg_ctl" -D "$room/pg/data" -m immediate stop >stop.log 2>&1; rm -rf "$room"' EXIT
+    trap 'stop_servers; rm -rf "$room"' EXIT
     export PGHOST=$room/pg PGUSER=loader PGDATABASE=dump PGCLIENTENCODING=UTF8
     createdb
 }
 
+# stop_servers: those that were started here
+stop_servers() {
+    as_owner "$(server_programs)/pg_ctl" -D "$room/pg/data" -m immediate stop >stop.log 2>&1
+    if [ -n "${mariadb-}" ]; then
+        kill -9 "$mariadb" 2>/dev/null
+        wait "$mariadb" 2>/dev/null
+    fi
+}
+
+# start_mariadb: a server for the client mysql, whose settings are those in the home folder.
+start_mariadb() {
+    local words=(--no-defaults "--datadir=$room/my/data" "--socket=$room/my/socket") turns=150
+    command -v mariadbd >/dev/null && command -v mysql >/dev/null || return 1
+    mkdir my
+    if [ "$(id -u)" = 0 ]; then
+        chown mysql my && words+=(--user=mysql)
+    fi
+    mariadb-install-db "${words[@]}" --auth-root-authentication-method=normal --skip-test-db >my.install 2>&1 || return 1
+    mariadbd "${words[@]}" --skip-networking --local-infile=1 >my.log 2>&1 &
+    mariadb=$!
+    printf '[client]\nsocket=%s\nuser=root\ndefault-character-set=utf8mb4\n' "$room/my/socket" >.my.cnf
+    until mysql -e 'create database dump' 2>my.told || [ $turns = 0 ]; do
+        turns=$((turns - 1))
+        sleep 0.2
+    done
+    mysql dump -e 'select 1' >/dev/null
+}
+
+# leave_out WORDS REASON: sessions that have these words are not run.
+leave_out() {
+    local script
+    for script in $(grep -lE "$1" script.*); do
+        echo "loaders.sh: skipped: $2"
+        rm "$script" "wanted.${script#script.}"
+    done
+}
+
 each_loader_does_what_stands_below_it() {
+    if ! start_mariadb; then leave_out '(^|[ |])mysql ' 'no server of MariaDB with its client'; fi
+    # The first Python that has pandas, if there is one.
+    if /usr/bin/python3 -c 'import pandas' 2>/dev/null; then ln -s /usr/bin/python3 bin/python3; fi
+    if ! python3 -c 'import pandas' 2>/dev/null; then leave_out 'import pandas' 'no pandas'; fi
     sessions_hold
     same 'there are sessions' yes "$([ "$sessions" -ge 6 ] && echo yes)"
 }

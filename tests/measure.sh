@@ -9,7 +9,7 @@ each_table_is_printed() {
     said=$(measured --on records,ones,backslashes --tables workers,commands,lines,pointers,memory)
     same 'the status' 0 $?
     for table in '| `check` | records | ones | backslashes | mean | worst |' '| 4 workers over 1 | ' '| processor time, 4 over 1 | ' '| `check --unique-names` | ' '| `at`, 1,000 | ' '| `each` | ' \
-        '| over `check` | records, 1 | records, 4 |' '| `seq --live` | ' '| `at --index`, ms |' '| records, 1 MB | MB |' '| `index` | '; do
+        '| lines over `check` | records, 1 | records, 4 |' '| `seq --live` | ' '| `at --index`, ms |' '| memory | MB, of records |' '| `index` | '; do
         has "a table with $table" "$table" "$said"
     done
     same 'a row has a cell for each input, the mean and the worst' 7 \

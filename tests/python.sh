@@ -46,6 +46,14 @@ saved_texts_are_as_a_plain_reader_reads_them() {
     all_right 'random texts and their indexes' "$(JX_PYTHON=ctypes "$python" "$root/tests/by_library.py" "$seed" 10000 2>&1)" 110000
 }
 
+sentences_are_those_of_the_program() {
+    if [ ! -x "$program" ]; then
+        echo "python.sh: skipped: $program is not built"
+        return
+    fi
+    all_right 'sentences of faults' "$("$python" "$root/tests/sentences.py" "$program" "$seed" 2000 2>&1)" 2000
+}
+
 # Else a wrong answer might pass too.
 a_wrong_answer_by_an_index_is_told() {
     mkdir -p wrong
@@ -123,6 +131,7 @@ the_wheel_works_in_a_fresh_environment() {
 if "$root/tools/library" >built 2>&1; then
     tests the_tests_of_the_package_pass \
         saved_texts_are_as_a_plain_reader_reads_them \
+        sentences_are_those_of_the_program \
         a_wrong_answer_by_an_index_is_told \
         a_wrong_value_of_a_view_is_told \
         the_samples_of_the_pages_run \

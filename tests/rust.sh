@@ -27,6 +27,16 @@ clippy_says_nothing() {
         cargo clippy --offline --quiet --all-targets -- -W clippy::missing_errors_doc 2>&1)"
 }
 
+# A package of its own with the sample of README.md, which has the crate as README.md says.
+clippy_says_nothing_of_the_sample() {
+    if ! cargo clippy --version >/dev/null 2>&1; then return; fi
+    cargo init --quiet --vcs none --name sample sample
+    awk '/^    use jx::/ { here = 1 } here && /^[^ ]/ { exit } here { print substr($0, 5) }' "$root/README.md" >sample/src/main.rs
+    same 'the sample is that of README.md' yes "$(grep -q 'fn main' sample/src/main.rs && echo yes)"
+    same 'the sample, by clippy' '' "$(cd sample && export JX_LIB_DIR=$room/library CARGO_TARGET_DIR=$room/clippy && cargo add --quiet --offline --path "$crate" &&
+        cargo clippy --offline --quiet 2>&1)"
+}
+
 # copy_crate FOLDER: the crate as a release has it.
 copy_crate() {
     mkdir -p "$1"
@@ -68,6 +78,7 @@ the_build_says_where_there_is_none() {
 
 if command -v cargo >/dev/null; then
     tests clippy_says_nothing \
+        clippy_says_nothing_of_the_sample \
         the_build_finds_the_library \
         the_build_says_where_there_is_none
 else

@@ -18,6 +18,8 @@ ROOT = pathlib.Path(__file__).resolve().parent.parent
 TEMPLATE = ROOT / "tools/jx.1.in"
 # The words that an option takes, by the name of its value or by its own. Each other value is a file or a number.
 CHOICES = {"WHEN": "auto always never", "FORMAT": "plain gnu json", "--workers": "auto"}
+# An option that fewer commands take is one of theirs.
+SHARED = 4
 
 
 # ---- what the program says
@@ -153,12 +155,19 @@ def listed(paragraph):
     return out
 
 
-def section(command):
+def section(command, notes, shared):
+    """What a command does and prints, and the options that are its own; of those that it shares, their names."""
     out = [".SS jx " + command.name, roff(command.about) + "."]
     for paragraph in paragraphs_of(command.after):
         if paragraph[0] != "Examples:":
             out += [".PP"] + listed(paragraph)
-    return out
+    out += notes[command.name]
+    takes = command.words + [option for option in command.options if option.name != "--help"]
+    for option in takes:
+        if text_of(option) not in shared:
+            out += described(option, notes) + default_line(option.default)
+    others = [option.name for option in takes if text_of(option) in shared]
+    return out + ([".PP", "It takes %s too: see OPTIONS." % roff(joined(others))] if others else [])
 
 
 def joined(names):
@@ -171,19 +180,30 @@ def default_of(commands, option, names, quote=""):
     return ", ".join([option.default] + ["of %s%s%s %s" % (quote, name, quote, default) for name, default in others])
 
 
-def option_list(commands, notes):
-    def key(option):
-        return option.head, tuple(paragraph for paragraph in option.paragraphs if not paragraph.startswith("[default: "))
+def text_of(option):
+    """An option by all that is said of it but its default."""
+    return option.head, tuple(paragraph for paragraph in option.paragraphs if not paragraph.startswith("[default: "))
 
+
+def described(option, notes):
+    return [".TP", roff(bare(option.head))] + [line for paragraph in text_of(option)[1] for line in sentences(paragraph)] + notes[option.name]
+
+
+def default_line(default):
+    return [roff("Default: %s." % default)] if default else []
+
+
+def shared_options(commands):
+    """The arguments and options of which several commands say the same, by that text: each with the names of these commands."""
+    taken = merged(commands, "words", text_of) + merged(commands, "options", text_of)
+    return {text_of(option): (option, names) for option, names in taken if len(names) >= SHARED}
+
+
+def option_list(commands, notes, shared):
     out = []
-    for option, names in merged(commands, "words", key) + merged(commands, "options", key):
-        out += [".TP", roff(bare(option.head))]
-        out += [line for paragraph in key(option)[1] for line in sentences(paragraph)]
-        out += notes[option.name]
-        if option.default:
-            out.append(roff("Default: %s." % default_of(commands, option, names)))
-        if len(names) < len(commands):
-            out.append(("Only for %s." if len(names) == 1 else "For %s.") % joined(names))
+    for option, names in shared.values():
+        out += described(option, notes) + default_line(option.default and default_of(commands, option, names))
+        out.append("For %s." % joined(names))
     return out
 
 
@@ -214,12 +234,13 @@ def read_template():
 
 def page(version, whole, commands):
     kept, notes = read_template()
+    shared = shared_options(commands)
     made = {
         "@title": ['.TH JX 1 "" "%s" "User Commands"' % version],
         "@synopsis": [".B " + roff("jx " + bare(command.usage)) for command in commands],
         "@about": [line for paragraph in paragraphs_of(whole.front) for line in [".PP"] + sentences(" ".join(paragraph))][1:],
-        "@commands": [line for command in commands for line in section(command) + notes[command.name]],
-        "@options": option_list(commands, notes),
+        "@commands": [line for command in commands for line in section(command, notes, shared)],
+        "@options": option_list(commands, notes, shared),
         "@statuses": statuses(whole),
         "@examples": [line for command in [whole] + commands for line in examples(command)][1:],
     }
@@ -383,8 +404,6 @@ def fish(commands):
 # ---- README
 
 HEAD = "| Option | Meaning |\n|---|---|\n"
-# An option that fewer commands take is one of theirs.
-SHARED = 4
 
 
 def table(commands):

@@ -7,8 +7,9 @@ import threading
 import weakref
 from typing import Any, Tuple, Union, overload
 
-from ._faults import Kind, Place, Refused, Verdict
+from ._faults import Kind, Place, Refused, Verdict, message_of
 from ._library import DEPTH_DEFAULT, LIBRARY, Buffer, CDocument, CVerdict, Status, done, held, settings
+from ._sentence import Front
 
 _STEP = 1 << 20
 
@@ -24,6 +25,7 @@ class Document:
     def __init__(self, data: Buffer = b"", *, depth: int = DEPTH_DEFAULT, ignore_bom: bool = False):
         asked = settings(depth, ignore_bom, False)
         self._document = CDocument()
+        self._front = (depth, ignore_bom)
         # Other threads of Python run during a call, and the library wants one call at a time.
         self._lock = threading.Lock()
         with held(data) as (address, size):
@@ -48,10 +50,13 @@ class Document:
         if found:
             return
         offset = len(self) if found.kind is Kind.TRUNCATED else found.offset
-        place = Place()
+        place, front = Place(), Front(*self._front)
         for start in range(0, offset, _STEP):
-            place.go_over(self._bytes(start, min(start + _STEP, offset)))
-        raise Refused(found, offset, place.told())
+            part = self._bytes(start, min(start + _STEP, offset))
+            place.go_over(part)
+            front.read(memoryview(part))
+        rest = self._bytes(offset, min(offset + 4, len(self)))
+        raise Refused(found, offset, place.told(), msg=message_of(found.kind, front, rest))
 
     def __len__(self) -> int:
         size = ctypes.c_size_t()

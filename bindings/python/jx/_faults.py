@@ -5,6 +5,8 @@ import dataclasses
 import enum
 from typing import Any, Dict, NoReturn, Optional, Type
 
+from ._sentence import Front
+
 _STEP = 1 << 20
 _CONTINUATIONS = bytes(range(0x80, 0xC0))
 
@@ -67,19 +69,24 @@ ACCEPTED = Verdict(Kind.ACCEPTED, 0)
 class Refused(ValueError):
     """The bytes are not a text that is accepted.
 
-    `offset` counts bytes from 0. `lineno` and `colno` count lines and characters from 1, as `json.JSONDecodeError` does; both
-    are `None` once the bytes in front are gone. A text that ends too early has the offset of its end. `filename` is the path of a file
-    that was checked, and else None.
+    `msg` says what may stand at the place, or what the verdict is once the bytes in front are gone. `offset` counts bytes from 0.
+    `lineno` and `colno` count lines and characters from 1, as `json.JSONDecodeError` does; both are `None` once the bytes in front are
+    gone. A text that ends too early has the offset of its end. `filename` is the path of a file that was checked, and else None.
     """
 
     def __init__(
-        self, verdict: Verdict, offset: Optional[int], place: Optional[tuple[int, int]], filename: Optional[str] = None
+        self,
+        verdict: Verdict,
+        offset: Optional[int],
+        place: Optional[tuple[int, int]],
+        filename: Optional[str] = None,
+        msg: Optional[str] = None,
     ):
         self.filename = filename
         self.verdict = verdict
         self.kind = verdict.kind
         self.offset = offset
-        self.msg = _MESSAGES[verdict.kind]
+        self.msg = msg or _MESSAGES[verdict.kind]
         self.lineno: Optional[int]
         self.colno: Optional[int]
         self.lineno, self.colno = place or (None, None)
@@ -90,7 +97,7 @@ class Refused(ValueError):
 
     def __reduce__(self) -> Any:
         place = None if self.lineno is None else (self.lineno, self.colno)
-        return type(self), (self.verdict, self.offset, place, self.filename)
+        return type(self), (self.verdict, self.offset, place, self.filename, self.msg)
 
     def __str__(self) -> str:
         said = super().__str__()
@@ -124,9 +131,19 @@ def place_in(data: memoryview, offset: int) -> tuple[int, int]:
     return place.told()
 
 
-def refused_in(data: memoryview, verdict: Verdict) -> Refused:
+def refused_in(data: memoryview, verdict: Verdict, depth: int, ignore_bom: bool) -> Refused:
+    """The refusal of these bytes, with its place and what may stand there."""
     offset = len(data) if verdict.kind is Kind.TRUNCATED else verdict.offset
-    return Refused(verdict, offset, place_in(data, offset))
+    front = Front(depth, ignore_bom)
+    front.read(data[:offset])
+    return Refused(verdict, offset, place_in(data, offset), msg=message_of(verdict.kind, front, bytes(data[offset : offset + 4])))
+
+
+def message_of(kind: Kind, front: Front, rest: bytes) -> Optional[str]:
+    """What is wrong at a place, by the bytes before it and some after it; None of a name, whose first use only another reading finds."""
+    if kind is Kind.TOO_DEEP:
+        return front.too_deep()
+    return front.sentence(rest) if kind in (Kind.STOPPED, Kind.TRUNCATED) else None
 
 
 class BadPointer(ValueError):

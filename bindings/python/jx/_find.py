@@ -45,17 +45,17 @@ def get(
         refuse_surrogate(pointer)
     if outcome == _FOUND:
         return view(data)[start:end]
-    return _told(view(data), pointer, outcome, at, default)
+    if outcome in NO_TEXT:
+        raise refused_in(view(data), Verdict(NO_TEXT[outcome], at), depth, ignore_bom)
+    return _told(pointer, outcome, at, default)
 
 
 def refuse_surrogate(pointer: str) -> NoReturn:
     raise _faults.BadPointer("%a: a lone surrogate has no UTF-8" % pointer) from None
 
 
-def _told(data: memoryview, pointer: str, outcome: int, at: int, default: Any) -> Any:
+def _told(pointer: str, outcome: int, at: int, default: Any) -> Any:
     """The default, or what an outcome that is no value raises."""
-    if outcome in NO_TEXT:
-        raise refused_in(data, Verdict(NO_TEXT[outcome], at))
     if _faults.is_lost(outcome) and default is not RAISE:
         return default
     _faults.raise_not_found(pointer, outcome, at)
@@ -111,13 +111,13 @@ def get_all(
     answers = (CAnswer * count)()
     with held(data) as (address, size):
         done(LIBRARY.jx_at_all_non_null(address, size, ctypes.byref(asked), spelt, count, answers, count))
-    whole = view(data)
-    if answers[count - 1].outcome != _FOUND:
-        _told(whole, "", answers[count - 1].outcome, answers[count - 1].at, None)
+    whole, last = view(data), answers[count - 1]
+    if last.outcome != _FOUND:
+        raise refused_in(whole, Verdict(NO_TEXT[last.outcome], last.at), depth, ignore_bom)
     return [
         whole[answer.span.start : answer.span.end]
         if answer.outcome == _FOUND
-        else _told(whole, pointer, answer.outcome, answer.at, default)
+        else _told(pointer, answer.outcome, answer.at, default)
         for pointer, answer in zip(named, answers)
     ]
 

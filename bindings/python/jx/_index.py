@@ -60,7 +60,7 @@ class Index:
             self._view = memoryview(bytes(self._view))
         rows = _engine.index(self._view, depth, ignore_bom, unique_names)
         if isinstance(rows, tuple):
-            raise refused_in(self._view, Verdict._of(*rows))
+            raise refused_in(self._view, Verdict._of(*rows), depth, ignore_bom)
         self._rows = rows
 
     def __len__(self) -> int:

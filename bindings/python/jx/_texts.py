@@ -9,8 +9,9 @@ from typing import Any, BinaryIO, Optional, Union
 
 from . import _engine
 from ._chunks import chunks_in, read_much, refuse_words
-from ._faults import ACCEPTED, Kind, Place, Refused, Verdict, refused_in
+from ._faults import ACCEPTED, Kind, Place, Refused, Verdict, message_of, refused_in
 from ._library import DEPTH_DEFAULT, LIBRARY, Buffer, CReader, CVerdict, done, held, settings, view
+from ._sentence import Front
 
 
 def verdict(data: Buffer, *, depth: int = DEPTH_DEFAULT, ignore_bom: bool = False, unique_names: bool = False) -> Verdict:
@@ -27,7 +28,7 @@ def check(data: Buffer, *, depth: int = DEPTH_DEFAULT, ignore_bom: bool = False,
     """Returns None if bytes are a JSON text that `verdict` accepts, and else raises `Refused`."""
     found = _engine.verdict(data, depth, ignore_bom, unique_names)
     if found is not None:
-        raise refused_in(view(data), Verdict._of(*found))
+        raise refused_in(view(data), Verdict._of(*found), depth, ignore_bom)
 
 
 def compact(data: Buffer, *, depth: int = DEPTH_DEFAULT, ignore_bom: bool = False, unique_names: bool = False) -> bytes:
@@ -38,7 +39,7 @@ def compact(data: Buffer, *, depth: int = DEPTH_DEFAULT, ignore_bom: bool = Fals
     """
     form = _engine.compact(data, depth, ignore_bom, unique_names)
     if isinstance(form, tuple):
-        raise refused_in(view(data), Verdict._of(*form))
+        raise refused_in(view(data), Verdict._of(*form), depth, ignore_bom)
     return form
 
 
@@ -139,13 +140,15 @@ def _check_chunks(file: Any, start: Optional[int], depth: int, ignore_bom: bool)
     offset = reader._size if found.kind is Kind.TRUNCATED else found.offset
     if start is None:
         raise Refused(found, offset, None)
-    # A second reading, so that accepted texts pay nothing for lines.
+    # A second reading, so that accepted texts pay nothing for lines and words.
     file.seek(start)
-    place, left = Place(), offset
+    place, front, left, rest = Place(), Front(depth, ignore_bom), offset, b""
     for chunk in chunks_in(file, read_much):
-        part = bytes(view(chunk)[:left])
-        place.go_over(part)
+        whole = view(chunk)
+        part, rest = whole[:left], bytes(whole[left : left + 4])
+        place.go_over(bytes(part))
+        front.read(part)
         left -= len(part)
-        if not left:
+        if rest:
             break
-    raise Refused(found, offset, place.told())
+    raise Refused(found, offset, place.told(), msg=message_of(found.kind, front, rest))

@@ -115,7 +115,8 @@ def each(
     begins.
     """
     whole = view(data)
-    return _given(ValueReader(pointer, depth=depth, ignore_bom=ignore_bom), slices(whole), whole)
+    given = _given(ValueReader(pointer, depth=depth, ignore_bom=ignore_bom), slices(whole))
+    return _with_places(given, whole, depth, ignore_bom)
 
 
 def each_file(
@@ -132,20 +133,24 @@ def each_file(
     file's own faults are raised where they happen, and a `BlockingIOError` where it does not block and has no bytes yet.
     """
     reader = ValueReader(pointer, depth=depth, ignore_bom=ignore_bom)
-    return _given(reader, chunks_of(file), None)
+    return _given(reader, chunks_of(file))
 
 
-def _given(reader: ValueReader, chunks: Chunks, whole: Optional[memoryview]) -> Generator[bytes, None, None]:
+def _given(reader: ValueReader, chunks: Chunks) -> Generator[bytes, None, None]:
     # Both are closed also where whoever takes the values wants no more of them.
     with contextlib.closing(reader), contextlib.closing(chunks):
         for chunk in chunks:
             yield from reader.feed(chunk)
+        reader.end()
+
+
+def _with_places(given: Generator[bytes, None, None], whole: memoryview, depth: int, ignore_bom: bool) -> Generator[bytes, None, None]:
+    """The same values, and a refusal with its place in the whole text."""
+    with contextlib.closing(given):
         try:
-            reader.end()
+            yield from given
         except Refused as refused:
-            if whole is None:
-                raise
-            raise refused_in(whole, refused.verdict) from None
+            raise refused_in(whole, refused.verdict, depth, ignore_bom) from None
 
 
 def _why_none(spelt: bytes) -> Tuple[int, int]:

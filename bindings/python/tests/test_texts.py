@@ -77,8 +77,43 @@ class Places(unittest.TestCase):
     def test_a_refusal_is_a_value_error_with_a_sentence(self):
         with self.assertRaises(ValueError) as caught:
             jx.check(b"nulx")
-        self.assertEqual(str(caught.exception), "No JSON text has this byte here: line 1 column 4 (byte 3)")
-        self.assertEqual(caught.exception.msg, "No JSON text has this byte here")
+        self.assertEqual(str(caught.exception), "expected l, as in null, found x: line 1 column 4 (byte 3)")
+        self.assertEqual(caught.exception.msg, "expected l, as in null, found x")
+
+    def test_a_sentence_says_what_may_stand_there(self):
+        for text, wanted in (
+            (b"[1 2]", "expected a comma or ], found 2"),
+            (b'{"a":1 b', "expected a comma or }, found b"),
+            (b"[}", "expected a value or ], found }"),
+            (b"{1", "expected a string or }, found 1"),
+            (b'{"a" ,', "expected a colon, found a comma"),
+            (b"[1x", "expected a digit, a decimal point, an exponent, a comma or ], found x"),
+            (b"[1e]", "expected a digit or a sign, found ]"),
+            (b"[01]", "no digit may follow a 0 that begins a number"),
+            (b"falsx", "expected e, as in false, found x"),
+            (b"{} \x01", "expected the end of the text, found \\x01"),
+            (b'"\\x"', 'expected one of " \\ / b f n r t u, found x'),
+            (b'"\\u00g0"', "expected a hexadecimal digit, found g"),
+            (b'"\xed\xa0\x80"', "expected a byte from 80 to 9F, found \\xA0"),
+            (b'"\t"', "a control character in a string must be escaped"),
+            (b"\xef\xbb\xbf[]", "a byte order mark stands in front of the text"),
+            (b"[1,", "the text ends where a value is expected"),
+            (b"tru", "the text ends where e, as in true, is expected"),
+            (b'["ab', "the text ends inside a string"),
+            (b"", "the text ends where a value is expected"),
+        ):
+            with self.subTest(text), self.assertRaises(jx.Refused) as caught:
+                jx.check(text)
+            self.assertEqual(caught.exception.msg, wanted, text)
+            with self.assertRaises(jx.Refused) as again:
+                jx.check_file(io.BytesIO(text))
+            self.assertEqual(again.exception.msg, wanted, text)
+        with self.assertRaises(jx.Refused) as caught:
+            jx.check(b"[[[", depth=2)
+        self.assertEqual(caught.exception.msg, "more than 2 containers open")
+        with self.assertRaises(jx.Refused) as caught:
+            jx.check(b"\xef\xbb1", ignore_bom=True)
+        self.assertEqual(caught.exception.msg, "a byte order mark is begun and not ended")
 
 
 class Settings(unittest.TestCase):
@@ -207,7 +242,7 @@ class Files(unittest.TestCase):
         with tempfile.TemporaryDirectory() as folder:
             path = os.path.join(folder, "a.json")
             pathlib.Path(path).write_bytes(b"[1 2]")
-            said = path + ": No JSON text has this byte here: line 1 column 4 (byte 3)"
+            said = path + ": expected a comma or ], found 2: line 1 column 4 (byte 3)"
             for unique_names in (False, True):
                 with open(path, "rb") as file:
                     for given in (path, pathlib.Path(path), path.encode(), file):
