@@ -53,9 +53,9 @@ until_it() {
     done
 }
 
-# told FOLDER METHOD NAME: how many times servers were told this of the file. A slash may be escaped.
+# told FOLDER METHOD NAME: how many times servers were told this of the file. A slash may be escaped, and a message may have lines.
 told() {
-    cat "$1"/said/* 2>/dev/null | tr -d '\\' | sed 's/Content-Length/\n&/g' | grep -a "textDocument/$2\"" | grep -ac "/texts/$3\""
+    cat "$1"/said/* 2>/dev/null | tr -d '\\\r\n' | sed 's/Content-Length/\n&/g' | grep -a "textDocument/$2\"" | grep -ac "/texts/$3\""
 }
 
 is_told() { [ "$(told "$@")" -gt 0 ]; }
@@ -120,6 +120,55 @@ emacs_has_one_server_and_one_mark() {
     "${screen[@]}" kill-server 2>/dev/null
 }
 
+# The lines for lsp-mode stand on the mode that those for eglot make.
+lsp_mode_has_one_server_and_one_mark() {
+    write_server lspmode
+    printed 'Emacs with `eglot`' | sed '/^(with-eval-after-load/,$d' >lspmode/home/.emacs.d/init.el
+    printed 'Emacs with `lsp-mode`' >>lspmode/home/.emacs.d/init.el
+    # What a person is asked at the first file of a project.
+    printf "(setq lsp-auto-guess-root t lsp-enable-suggest-server-download nil)\n" >>lspmode/home/.emacs.d/init.el
+    mkdir lspmode/texts/.git
+    begin lspmode emacs -nw a.json
+    until_it is_told lspmode didOpen a.json
+    until_it is_shown 'Flymake[1'
+    has 'lsp-mode: a fault has one mark' 'Flymake[1 0]' "$(shown)"
+    press C-x C-f 'b.json' Enter
+    until_it is_told lspmode didOpen b.json
+    same 'lsp-mode: one server' 1 "$(servers lspmode)"
+    "${screen[@]}" kill-server 2>/dev/null
+}
+
+# Kate without a screen. It takes the server as one that may be started.
+kate_tells_the_server_of_a_file() {
+    local page='Kate (tried'
+    write_server kate
+    mkdir -p kate/home/.config/kate/lspclient kate/run
+    chmod 700 kate/run
+    printed "$page" >kate/home/.config/kate/lspclient/settings.json
+    same 'Kate: lines are printed' accepted "$("$program" check kate/home/.config/kate/lspclient/settings.json)"
+    printf '[lspclient]\nAllowedServerCommandLines=%s/kate/bin/jx-lsp\n' "$room" >kate/home/.config/katerc
+    env -u XDG_CONFIG_HOME HOME="$room/kate/home" PATH="$room/kate/bin:$PATH" QT_QPA_PLATFORM=offscreen XDG_RUNTIME_DIR="$room/kate/run" \
+        timeout 60 dbus-run-session -- kate -b kate/texts/a.json >kate/log 2>&1 &
+    until_it is_told kate didOpen a.json
+    same 'Kate: the file is told' 1 "$(told kate didOpen a.json)"
+    kill $!
+    wait $!
+}
+
+# The extension of VS Code, over modules that only say what they are given.
+the_extension_of_vs_code_starts_the_server() {
+    mkdir -p code/node_modules/vscode-languageclient
+    printed 'VS Code (not tried' >code/package.json
+    printed 'Its `extension.js`:' >code/extension.js
+    same 'VS Code: package.json' accepted "$("$program" check code/package.json)"
+    same 'VS Code: what is run' '"./extension.js"' "$("$program" get -f code/package.json /main)"
+    printf '%s\n' 'exports.LanguageClient = class {' \
+        '    constructor(id, name, server, client) { console.log(server.command, ...client.documentSelector.map(it => it.language)); }' \
+        '    start() { console.log("start"); }' '    stop() { console.log("stop"); }' '};' >code/node_modules/vscode-languageclient/node.js
+    same 'VS Code: the extension' 'jx-lsp json jsonl start stop' \
+        "$(node -e 'const it = require("./code/extension.js"); it.activate(); it.deactivate()' 2>&1 | flat)"
+}
+
 has_eglot() { emacs --batch --eval "(progn (package-initialize) (require 'eglot))" >/dev/null 2>&1; }
 
 trap '"${screen[@]}" kill-server 2>/dev/null; rm -rf "$room"' EXIT
@@ -134,4 +183,15 @@ if command -v emacs >/dev/null && has_eglot; then
 else
     echo "${0##*/}: skipped: there is no emacs with eglot"
 fi
+if command -v emacs >/dev/null && emacs --batch --eval "(require 'lsp-mode)" >/dev/null 2>&1; then
+    lsp_mode_has_one_server_and_one_mark
+else
+    echo "${0##*/}: skipped: there is no emacs with lsp-mode"
+fi
+if command -v kate >/dev/null && command -v dbus-run-session >/dev/null; then
+    kate_tells_the_server_of_a_file
+else
+    echo "${0##*/}: skipped: there is no kate"
+fi
+if command -v node >/dev/null; then the_extension_of_vs_code_starts_the_server; else echo "${0##*/}: skipped: there is no node"; fi
 tests

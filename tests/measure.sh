@@ -29,6 +29,21 @@ a_document_takes_the_place_of_a_made_one() {
     same 'the document stands in the input' '[{"id":505874924095815681,"text":"a real one"},' "$(head -c 47 others/tweets-1.json)"
 }
 
+# A copy of the page gets the table and its build; all else stays.
+the_page_gets_a_table() {
+    local said
+    mkdir -p copy/tools copy/docs
+    cp "$root/tools/measure" copy/tools && cp "$root/docs/PERFORMANCE.md" copy/docs
+    said=$(copy/tools/measure --program "$program" --folder "$room/inputs" --size 1 --runs 1 --on records --tables memory --write)
+    same 'the table stands in the page' "$(grep '^|' <<<"$said")" "$(awk '/^\| memory \|/ { here = 1 } here && !/^\|/ { exit } here' copy/docs/PERFORMANCE.md)"
+    has 'with its build' "$(tail -n 1 <<<"$said" | cut -c 1-30)" "$(grep -A 100 '^| memory |' copy/docs/PERFORMANCE.md | grep -m 1 '^Build ')"
+    same 'all before it is as it was' "$(sed '/^| memory |/,$d' "$root/docs/PERFORMANCE.md")" "$(sed '/^| memory |/,$d' copy/docs/PERFORMANCE.md)"
+    sed -i 's/^| memory |/| mind |/' copy/docs/PERFORMANCE.md
+    has 'a table that is not there is reported' 'has 0 tables that begin with | memory |' \
+        "$(copy/tools/measure --program "$program" --folder "$room/inputs" --size 1 --runs 1 --on records --tables memory --write 2>&1)"
+}
+
 tests each_table_is_printed \
     each_input_is_accepted \
-    a_document_takes_the_place_of_a_made_one
+    a_document_takes_the_place_of_a_made_one \
+    the_page_gets_a_table
