@@ -4,7 +4,8 @@
     found FILE  which they are, a line each
     renew       records how many there are now
     sentences   sentences of more than 30 words in docs, READMEs and CHANGELOG.md
-    size        docs and the READMEs of crates have at most 300 KB, README.md 13,000 bytes, and some pages less
+    size        docs and the READMEs of crates have at most 300 KB, README.md 13,000 bytes, some pages less; an entry of CHANGELOG.md two
+                lines, and the glossary thirty terms
     links       a link between documents leads to a file and to a heading
 
 Of a document all words count but code. Of a crate the comments in src/ and specs/ count, all together, and of a binding its doc comments.
@@ -22,6 +23,7 @@ SENTENCE = 30
 # The greatest size of pages, in bytes; of all of them in the last line.
 SIZES = {"README.md": 13000, "docs/DECISIONS.md": 25000, "docs/LIMITS.md": 25000}
 ALL = 300_000
+TERMS = 30
 
 
 def text_of(path):
@@ -148,6 +150,11 @@ def wrong_size():
     total = sum(size for path, size in sizes.items() if path.startswith(("docs/", "crates/")))
     if total > ALL:
         yield "docs and the READMEs of crates have %d bytes, more than %d" % (total, ALL)
+    for entry in re.findall(r"^- .*(?:\n +.*){2,}", text_of("CHANGELOG.md"), re.M):
+        yield "CHANGELOG.md: an entry of more than two lines: %s" % entry.splitlines()[0]
+    terms = re.findall(r"^\| .*", text_of("docs/ARCHITECTURE.md").partition("\n## Words\n")[2].partition("\n## ")[0], re.M)[1:]
+    if len(terms) > TERMS:
+        yield "docs/ARCHITECTURE.md has a glossary of %d terms, more than %d" % (len(terms), TERMS)
 
 
 def anchors_of(path):

@@ -37,6 +37,8 @@ what_is_wrong_is_reported() {
     wrong words crates/jx_fork/src/lib.rt '1i // What stands behind it, and want of memory.' 'crates/jx_fork/src has '
     wrong sentences docs/RECIPES.md '1a a b c d e f g h i j k l m n o p q r s t u v w x y z a b c d e.' 'docs/RECIPES.md: 31 words'
     wrong size docs/LIMITS.md "1a $(printf '%025000d' 0)" 'docs/LIMITS.md has '
+    wrong size CHANGELOG.md '0,/^- /{s/^- .*/&\n  more\n  and more/}' 'CHANGELOG.md: an entry of more than two lines'
+    wrong size docs/ARCHITECTURE.md 's/^| verdict | .*/&\n| verdict, too | what it is | |/' 'has a glossary of 31 terms, more than 30'
     wrong links docs/PROVED.md 's/(TRUST.md)/(TRUTH.md)/' 'docs/PROVED.md: the link to TRUTH.md leads nowhere'
     wrong links README.md 's/(docs\/LIMITS.md)/(docs\/LIMITS.md#luck)/' 'README.md: docs/LIMITS.md#luck has no such heading'
 }
