@@ -1,7 +1,7 @@
 #!/usr/bin/env bash
 # What help, manual page and docs say of workers, memory and sizes. Each line names a page, its sentence, a call, and what the call
 # makes of it: how many threads, how much memory at its peak in KiB, how many bytes of output. So a sentence that is no longer so fails,
-# and so does one that has gone.
+# and so does one that has gone. With the word `sentences` it only looks whether they are there, which needs no program.
 . "$(dirname "$0")/lib.sh"
 
 # PAGE | SENTENCE | WHAT LEAST MOST | INPUT | WORDS. A `-` has no bound; `auto` is one thread for each processor that may be used here. An
@@ -156,13 +156,20 @@ within() {
     { [ "$2" = - ] || [ "$1" -ge "$2" ]; } && { [ "$3" = - ] || [ "$1" -le "$3" ]; }
 }
 
+each_sentence_is_there() {
+    local name sentence
+    while IFS='|' read -r name sentence _; do
+        name=$(flat <<<"$name") sentence=$(flat <<<"$sentence")
+        if [ ! -e "page.${name##*/}" ]; then page "$name" >"page.${name##*/}"; fi
+        has "$name" "$sentence" "$(cat "page.${name##*/}")"
+    done < <(claims | sort -u -t '|' -k 1,2)
+}
+
 each_sentence_is_so() {
     local name sentence bounds input words what least most said number
     while IFS='|' read -r name sentence bounds input words; do
         name=$(flat <<<"$name") sentence=$(flat <<<"$sentence") input=$(flat <<<"$input")
         read -r what least most <<<"$bounds"
-        if [ ! -e "page.${name##*/}" ]; then page "$name" >"page.${name##*/}"; fi
-        has "$name" "$sentence" "$(cat "page.${name##*/}")"
         said=$(counts "$input" $words)
         least=${least/auto/$(threads_on "${#processors[@]}")} most=${most/auto/$(threads_on "${#processors[@]}")}
         number=$(sed -n "s/.*$what=\([0-9]*\).*/\1/p" <<<"$said")
@@ -183,6 +190,10 @@ auto_follows_the_affinity() {
     done
 }
 
+if [ "${1-}" = sentences ]; then
+    tests each_sentence_is_there
+    exit
+fi
 if ! command -v cc >/dev/null || ! make_counter 2>cc.log; then
     echo 'claims.sh: skipped: no cc that makes a library to count threads'
     echo 'claims.sh: 0 passed, 0 failed'
@@ -192,4 +203,4 @@ seq 0 9999 | sed 's|^|/|' >many
 head -n 9999 many >few
 make_inputs
 mapfile -t processors < <(python3 -c 'import os; print(*sorted(os.sched_getaffinity(0)), sep="\n")')
-tests each_sentence_is_so auto_follows_the_affinity
+tests each_sentence_is_there each_sentence_is_so auto_follows_the_affinity

@@ -27,6 +27,19 @@ err: ' "$(said '' $command $flag)"
     done
 }
 
+# Each line of the help as tools/help_texts.py makes it of the sources, by which pages are made before the program is built.
+the_help_of_the_sources_is_that_of_the_program() {
+    same 'lines that the program does not print' '' "$(PYTHONDONTWRITEBYTECODE=1 PYTHONPATH=$root/tools python3 -c '
+import subprocess, sys
+import help_texts
+_, whole, found = help_texts.commands()
+for command in [whole, *found]:
+    words = [sys.argv[1], command.name] if command.name else [sys.argv[1]]
+    said = [subprocess.run([*words, flag], stderr=subprocess.PIPE, text=True).stderr.split("\n") for flag in ("-h", "--help")]
+    print("".join("%s: %s\n" % (command.name, line) for line in help_texts.printed(command) if line not in said[0] + said[1]), end="")
+' "$program" 2>&1)"
+}
+
 # Those that need no file of the user's.
 the_examples_of_the_help_run_as_they_are_printed() {
     same 'an example of jx index' 'accepted
@@ -95,6 +108,7 @@ the_nearest_right_word_is_told() {
 }
 
 tests the_help_on_each_command_fits_and_is_complete \
+    the_help_of_the_sources_is_that_of_the_program \
     the_examples_of_the_help_run_as_they_are_printed \
     the_version_is_one_line \
     the_nearest_right_word_is_told

@@ -43,5 +43,26 @@ what_is_wrong_is_reported() {
     wrong links README.md 's/(docs\/LIMITS.md)/(docs\/LIMITS.md#luck)/' 'README.md: docs/LIMITS.md#luck has no such heading'
 }
 
+# What is made of the help texts is as new as these, and no line of the help is cut by a terminal. So neither needs a built program.
+the_help_of_the_sources_is_in_the_pages() {
+    local said
+    mkdir -p made/crates/jx_command
+    cp -R "$root/tools" "$root/jx.1" "$root/completions" "$root/README.md" made
+    cp -R "$root/crates/jx_command/src" made/crates/jx_command
+    same 'tools/words.py --sources has nothing to write' '' "$(made/tools/words.py --check --sources 2>&1)"
+    sed -i 's/^pub const DEPTH: &str = "/&As deep as texts may be: let open at most as they are /' made/crates/jx_command/src/help.rt
+    said=$(made/tools/words.py --check --sources)
+    has 'a line that is too long' 'jx check: a line of the help has 1' "$said"
+    has 'a page that is old' 'completions/_jx is old: run tools/words.py --sources' "$said"
+    sed -i 's/^pub const LONG_FILE: &str = "/&Of all files, /' made/crates/jx_command/src/help.rt
+    has 'another page that is old' 'jx.1 is old: run tools/words.py --sources' "$(made/tools/words.py --check --sources)"
+}
+
+the_sentences_that_are_held_are_in_the_pages() {
+    has 'tests/claims.sh sentences' ' passed, 0 failed' "$(bash "$root/tests/claims.sh" sentences)"
+}
+
 tests documents_are_as_they_should_be \
-    what_is_wrong_is_reported
+    what_is_wrong_is_reported \
+    the_help_of_the_sources_is_in_the_pages \
+    the_sentences_that_are_held_are_in_the_pages

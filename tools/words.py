@@ -3,6 +3,7 @@
 
     tools/words.py PROGRAM            writes jx.1, completions/ and the table
     tools/words.py --check PROGRAM    writes nothing, and names those that are old
+    tools/words.py --sources          the same as by a program that was built of these sources; also with --check
 
 The help texts stand in crates/jx_command alone. What only the manual page says stands in tools/jx.1.in: a line that begins with
 `@` stands there for what is made here, and what follows `@behind WORD`, up to `@end`, is put after the command or the
@@ -13,6 +14,8 @@ import pathlib
 import re
 import subprocess
 import sys
+
+import help_texts
 
 ROOT = pathlib.Path(__file__).resolve().parent.parent
 TEMPLATE = ROOT / "tools/jx.1.in"
@@ -35,12 +38,6 @@ class Option:
         self.value = value[1] if value else None
         self.paragraphs = []
         self.short, self.default = "", ""
-
-    def kind(self):
-        """What its value is: `file`, `number`, or the words that it may be."""
-        if not self.value:
-            return None
-        return CHOICES.get(self.name) or CHOICES.get(self.value, "file" if self.value == "FILE" else "number")
 
 
 class Command:
@@ -101,6 +98,13 @@ def said(program, *words):
 
 def commands_of(program, whole):
     return [Command(program, name, about) for name, about in whole.commands if name != "help"]
+
+
+def kind_of(option):
+    """What its value is: `file`, `number`, or the words that it may be."""
+    if not option.value:
+        return None
+    return CHOICES.get(option.name) or CHOICES.get(option.value, "file" if option.value == "FILE" else "number")
 
 
 def merged(commands, part, key):
@@ -298,7 +302,7 @@ def bash(commands):
     names = [command.name for command in commands]
     flags = collections.defaultdict(set)
     for option, _ in merged(commands, "options", lambda option: option.head):
-        flags[option.kind()].add(option.name)
+        flags[kind_of(option)].add(option.name)
     offers = [("''", names + ["help", "-h", "--help", "-V", "--version"]), ("help", names)]
     offers += [(command.name, [flag for option in command.options for flag in option.flags]) for command in commands]
     return BASH % {
@@ -345,7 +349,7 @@ def begun_small(text):
 
 
 def zsh_option(option):
-    kind = option.kind()
+    kind = kind_of(option)
     value = {None: "", "file": ":file:_files", "number": ":number:"}.get(kind, ":word:(%s)" % kind)
     takes = "=" if kind else ""
     told = "[%s]%s'" % (begun_small(option.short), value)
@@ -385,7 +389,7 @@ complete -c jx -n '__fish_seen_subcommand_from help' -a '%(names)s'
 
 
 def fish_option(option, names):
-    kind = option.kind()
+    kind = kind_of(option)
     value = {None: "", "file": " -r -F", "number": " -x"}.get(kind, " -x -a '%s'" % kind)
     letter = " -s " + option.flags[0][1:] if len(option.flags) > 1 else ""
     return "complete -c jx -n '__fish_seen_subcommand_from %s'%s -l %s%s -d '%s'" % (" ".join(names), letter, option.name[2:], value, option.short)
@@ -421,12 +425,19 @@ def table(commands):
     return before + found + "".join(rows) + behind[behind.index("\n\n") + 1:]
 
 
-def main(words):
-    only_check = words[:1] == ["--check"]
-    program = str(pathlib.Path(words[-1]).resolve())
+def told(program):
+    """The version, the program and its commands, by what it prints."""
     version = subprocess.run([program, "--version"], stdout=subprocess.PIPE, text=True).stdout.strip()
     whole = Command(program, "")
-    commands = commands_of(program, whole)
+    return version, whole, commands_of(program, whole)
+
+
+def main(words):
+    only_check = words[:1] == ["--check"]
+    is_by_sources = words[-1] == "--sources"
+    version, whole, commands = help_texts.commands() if is_by_sources else told(str(pathlib.Path(words[-1]).resolve()))
+    wide = list(help_texts.too_wide(whole, commands)) if is_by_sources else []
+    print("".join(line + "\n" for line in wide), end="")
     made = {
         "jx.1": page(version, whole, commands),
         "completions/jx.bash": bash(commands),
@@ -440,7 +451,7 @@ def main(words):
             print("%s is old: run tools/words.py %s" % (name, words[-1]))
         else:
             (ROOT / name).write_text(made[name])
-    return 1 if only_check and old else 0
+    return 1 if wide or only_check and old else 0
 
 
 if __name__ == "__main__":
