@@ -160,18 +160,19 @@ def listed(paragraph):
 
 
 def section(command, notes, shared):
-    """What a command does and prints, and the options that are its own; of those that it shares, their names."""
+    """The options of a command that are its own, the names of those that it shares, and what it prints: in the order of its help."""
     out = [".SS jx " + command.name, roff(command.about) + "."]
-    for paragraph in paragraphs_of(command.after):
-        if paragraph[0] != "Examples:":
-            out += [".PP"] + listed(paragraph)
-    out += notes[command.name]
     takes = command.words + [option for option in command.options if option.name != "--help"]
     for option in takes:
         if text_of(option) not in shared:
             out += described(option, notes) + default_line(option.default)
     others = [option.name for option in takes if text_of(option) in shared]
-    return out + ([".PP", "It takes %s too: see OPTIONS." % roff(joined(others))] if others else [])
+    if others:
+        out += [".PP", "It takes %s%s: see OPTIONS." % (roff(joined(others)), " too" if len(others) < len(takes) else "")]
+    for paragraph in paragraphs_of(command.after):
+        if paragraph[0] != "Examples:":
+            out += [".PP"] + listed(paragraph)
+    return out + notes[command.name]
 
 
 def joined(names):
