@@ -71,7 +71,7 @@ class Front:
         trial, answer = CReader.from_buffer_copy(self._reader), CVerdict()
         done(LIBRARY.jx_reader_feed(ctypes.byref(trial), bytes((byte,)), 1))
         done(LIBRARY.jx_reader_verdict(ctypes.byref(trial), ctypes.byref(answer)))
-        return answer.kind != _STOPPED
+        return bool(answer.kind != _STOPPED)
 
 
 def _stopped(named: List[str], end: bytes, rest: bytes) -> str:
