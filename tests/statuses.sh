@@ -170,7 +170,7 @@ words_that_are_no_pointers_are_refused_before_a_read() {
     same 'a bad escape' "$(lines 'status 2' 'err: jx: /~2: bad escape at 1')" "$(said '[1]' at /0 '/~2')"
     printf '/0\nx\n' >list
     same 'a line of a list is answered' "$(lines 'status 1' 'out: found number 1..2' 'out: no slash')" "$(said '[1]' at --pointers list)"
-    same 'a name that a terminal obeys' "$(lines 'status 2' 'err: jx: a\x1bb: '"$hint")" "$(said '[1]' at "$(printf 'a\033b')")"
+    same 'a name that a terminal obeys' "$(lines 'status 2' 'err: jx: a\x1Bb: '"$hint")" "$(said '[1]' at "$(printf 'a\033b')")"
 }
 
 # An absolute path is a pointer too.
