@@ -3,11 +3,14 @@ from __future__ import annotations
 
 import ctypes
 import re
+import unicodedata
 from typing import List
 
 from ._library import LIBRARY, CReader, CVerdict, done, held, settings
 
 _STOPPED = 1
+# Categories of characters that take no column: controls, format characters, marks, separators of lines and paragraphs.
+_NO_WIDTH = ("Cc", "Cf", "Mn", "Me", "Zl", "Zp")
 _IN_WORDS = {"\n": "the end of the line", "\r": "a carriage return", "\t": "a tab", " ": "a space", ",": "a comma", ":": "a colon", ".": "a point"}
 # What may stand at a place: the words, bytes that all may stand there, and one that may not, since with it more is meant.
 _CHOICES = (
@@ -109,7 +112,7 @@ def _found(rest: bytes) -> str:
         if fault.start == 0:
             return _escaped(rest[: fault.end])
         character = rest[: fault.start].decode()[0]
-    return _IN_WORDS.get(character) or (character if character.isprintable() else _escaped(character.encode()))
+    return _IN_WORDS.get(character) or (_escaped(character.encode()) if unicodedata.category(character) in _NO_WIDTH else character)
 
 
 def _escaped(those: bytes) -> str:
