@@ -17,7 +17,12 @@ import unittest
 import jx
 
 TABLE = pathlib.Path(__file__).resolve().parents[3] / "tests" / "verdicts"
+SENTENCES = TABLE.with_name("sentences")
 BUFFERS = (bytes, bytearray, memoryview, lambda data: memoryview(bytearray(b"x" + data))[1:])
+
+
+def unspelt(text):
+    return re.sub(rb"\\x(..)", lambda found: bytes.fromhex(found[1].decode()), text)
 
 
 def lines():
@@ -25,8 +30,7 @@ def lines():
     for line in TABLE.read_bytes().splitlines():
         if line and not line.startswith(b"#"):
             kind, offset, depth, text = (line + b" ").split(b" ", 3)
-            text = re.sub(rb"\\x(..)", lambda found: bytes.fromhex(found[1].decode()), text[:-1])
-            yield jx.Kind[kind.decode().upper()], int(offset), int(depth), text
+            yield jx.Kind[kind.decode().upper()], int(offset), int(depth), unspelt(text[:-1])
 
 
 class Table(unittest.TestCase):
@@ -81,33 +85,15 @@ class Places(unittest.TestCase):
         self.assertEqual(caught.exception.msg, "expected l, as in null, found x")
 
     def test_a_sentence_says_what_may_stand_there(self):
-        for text, wanted in (
-            (b"[1 2]", "expected a comma or ], found 2"),
-            (b'{"a":1 b', "expected a comma or }, found b"),
-            (b"[}", "expected a value or ], found }"),
-            (b"{1", "expected a string or }, found 1"),
-            (b'{"a" ,', "expected a colon, found a comma"),
-            (b"[1x", "expected a digit, a decimal point, an exponent, a comma or ], found x"),
-            (b"[1e]", "expected a digit or a sign, found ]"),
-            (b"[01]", "no digit may follow a 0 that begins a number"),
-            (b"falsx", "expected e, as in false, found x"),
-            (b"{} \x01", "expected the end of the text, found \\x01"),
-            (b'"\\x"', 'expected one of " \\ / b f n r t u, found x'),
-            (b'"\\u00g0"', "expected a hexadecimal digit, found g"),
-            (b'"\xed\xa0\x80"', "expected a byte from 80 to 9F, found \\xA0"),
-            (b'"\t"', "a control character in a string must be escaped"),
-            (b"\xef\xbb\xbf[]", "a byte order mark stands in front of the text"),
-            (b"[1,", "the text ends where a value is expected"),
-            (b"tru", "the text ends where e, as in true, is expected"),
-            (b'["ab', "the text ends inside a string"),
-            (b"", "the text ends where a value is expected"),
-        ):
-            with self.subTest(text), self.assertRaises(jx.Refused) as caught:
-                jx.check(text)
-            self.assertEqual(caught.exception.msg, wanted, text)
-            with self.assertRaises(jx.Refused) as again:
-                jx.check_file(io.BytesIO(text))
-            self.assertEqual(again.exception.msg, wanted, text)
+        for line in SENTENCES.read_text().splitlines():
+            if line.startswith("#"):
+                continue
+            text, wanted = line.split("\t")
+            text = unspelt(text.encode())
+            for call in (jx.check, lambda it: jx.check_file(io.BytesIO(it))):
+                with self.assertRaises(jx.Refused) as caught:
+                    call(text)
+                self.assertEqual(caught.exception.msg, wanted, text)
         with self.assertRaises(jx.Refused) as caught:
             jx.check(b"[[[", depth=2)
         self.assertEqual(caught.exception.msg, "more than 2 containers open")

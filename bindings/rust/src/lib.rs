@@ -28,6 +28,7 @@ mod refusal;
 mod rows;
 mod run;
 mod save;
+mod sentence;
 mod settings;
 mod shelf;
 mod values;
