@@ -13,7 +13,7 @@ use Rattle.jx_file_index.specs.Index.{IsIndexOf}
 use Rattle.jx_file_index.specs.Saved.{HasItsLevels, SaysOf}
 use Rattle.jx_file_index.specs.Spelling.{front_flags}
 use Rattle.jx_file_index.specs.declared.saved_text.SavedText.{SavedText}
-use Rattle.jx_file_build.specs.FedNames.{KeepsNames}
+use Rattle.jx_file_build.specs.TextTables.{KeepsNames}
 use Rattle.jx_file_index.specs.SavedTexts.{IsSavableToo, SaysSameToo}
 use Rattle.jx_file_index.specs.TextSpelling.{spelt_saved}
 use Rattle.jx_file_query.specs.declared.walk.PausedWalk.{PausedWalk}

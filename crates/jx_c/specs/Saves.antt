@@ -8,22 +8,16 @@ use Rattle.jx_run.specs.Settings.{JudgedBy}
 use Rattle.jx_file_index.specs.Index.{IsIndexOf}
 use Rattle.jx_file_build.specs.Indexer.{HasFed}
 use Rattle.jx_file_index.specs.declared.saved_text.SavedText.{SavedText}
-use Rattle.jx_file_build.specs.NamesIfAsked.{AreFed, HasNames}
+use Rattle.jx_file_build.specs.TextTables.{HasNames}
 use Rattle.jx_file_index.specs.TextSpelling.{spelt_saved}
 use Rattle.jx_c.specs.Verdict.{shown}
-use Rattle.jx_c.specs.declared.saving.fed_text.FedText.{FedText}
 use Rattle.jx_c.specs.declared.saving.saver.Saver.{Saver}
 use Rattle.jx_c.specs.declared.saving.saver.Saver.TheVariants.{Reading, Saved}
 use Rattle.jx_c.specs.declared.shapes.verdict.JxVerdict.{JxVerdict}
 
--- by settings and for chunks of this size, it was fed these bytes since it was made, with tables of names or without
-pub record IsFedText (has_names : Bool) (settings : Settings) (chunk : ℕ) (bytes : List ℕ) (fed : FedText) : Type 0 where
-  pub index : HasFed settings chunk bytes fed.index
-  pub names : AreFed has_names settings chunk bytes fed.names
-
--- the same, and the text has not ended
+-- by settings and for chunks of this size, it was fed these bytes since it was made, with tables of names or without; the text has not ended
 abbrev pub HasRead : Bool → Settings → ℕ → List ℕ → Saver → Type 0
-HasRead has_names settings chunk bytes (Reading fed) = IsFedText has_names settings chunk bytes fed
+HasRead has_names settings chunk bytes (Reading fed) = HasFed has_names settings chunk bytes fed
 HasRead has_names settings chunk bytes (Saved index) = ⊥
 
 -- a text of which no byte was fed

@@ -1,5 +1,4 @@
 // Saved indexes.
-pub(crate) mod fed_text;
 pub(crate) mod held_save;
 pub(crate) mod held_saved;
 pub(crate) mod opened;

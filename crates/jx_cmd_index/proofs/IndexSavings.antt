@@ -8,15 +8,15 @@ use Rattle.jx_run.specs.declared.texts.verdict.Verdict.TheVariants.{Accepted}
 use Rattle.jx_file_index.specs.declared.saved_text.SavedText.{SavedText}
 use Rattle.jx_file_index.specs.TextSpelling.{spelt_saved}
 use Rattle.jx_ends.specs.declared.exit.Exit.TheVariants.{Good}
-use Rattle.jx_cmd_index.specs.declared.text_saving.TextSaving.{TextSaving}
-use Rattle.jx_cmd_index.specs.inside.Saving.{ComesToSaved, HasReadOn, IsTextSavingOf}
+use Rattle.jx_cmd_index.specs.declared.saving.Saving.{Saving}
+use Rattle.jx_cmd_index.specs.inside.Saving.{ComesToSaved, HasReadOn, IsSavingOf}
 use Rattle.jx_cmd_index.specs.SaveOutput.{IndexOutput}
 
 abbrev Known : Type 0
 Known = Option (List ℕ)
 
-pub goes_on : (has_names : Bool) (settings : Settings) (chunk : ℕ) (u m n : Known) (batch : List ℕ) (old new : TextSaving) → HasReadOn has_names settings chunk u m old → Consumes m n batch
-    → ((bytes : List ℕ) → IsTextSavingOf has_names settings chunk bytes old → IsTextSavingOf has_names settings chunk (bytes ++ batch) new) → HasReadOn has_names settings chunk u n new
+pub goes_on : (has_names : Bool) (settings : Settings) (chunk : ℕ) (u m n : Known) (batch : List ℕ) (old new : Saving) → HasReadOn has_names settings chunk u m old → Consumes m n batch
+    → ((bytes : List ℕ) → IsSavingOf has_names settings chunk bytes old → IsSavingOf has_names settings chunk (bytes ++ batch) new) → HasReadOn has_names settings chunk u n new
 goes_on has_names settings chunk u m n batch old new h r fed = record {
   text = h.text ++ batch;
   read = Consumes-trans _ _ _ _ _ h.read r;

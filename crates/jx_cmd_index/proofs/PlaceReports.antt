@@ -12,7 +12,7 @@ use Rattle.jx_file_index.specs.declared.name_tables.NameTable.{NameTable}
 use Rattle.jx_file_index.specs.declared.name_tables.NameTables.{NameTables}
 use Rattle.jx_file_index.specs.NameTables.{IsTableOf}
 use Rattle.jx_file_index.specs.declared.saved_text.SavedText.{SavedText}
-use Rattle.jx_file_build.specs.FedNames.{KeepsNames}
+use Rattle.jx_file_build.specs.TextTables.{KeepsNames}
 use Rattle.jx_file_index.specs.SavedTexts.{IsSavableToo, SaysSameToo, SaysTable, SayNames, SayTables}
 use Rattle.jx_file_index.specs.TextSpelling.{spelt_saved}
 use Rattle.jx_ends.specs.declared.exit.Exit.{Exit}

@@ -7,7 +7,7 @@ use Rattle.jx_run.specs.declared.texts.verdict.Verdict.TheVariants.{Accepted, Re
 use Rattle.jx_index.specs.ByNames.{IsVerdictBy}
 use Rattle.jx_file_index.specs.Index.{IsIndexOf}
 use Rattle.jx_file_index.specs.declared.saved_text.SavedText.{SavedText}
-use Rattle.jx_file_build.specs.NamesIfAsked.{HasNames}
+use Rattle.jx_file_build.specs.TextTables.{HasNames}
 use Rattle.jx_file_index.specs.SavedTexts.{HasTablesToo}
 use Rattle.jx_file_index.specs.TextSpelling.{spelt_saved}
 use Rattle.jx_ends.specs.declared.exit.Exit.{Exit}

@@ -7,7 +7,7 @@ use Rattle.jx_file_index.specs.Chunks.{part}
 use Rattle.jx_file_index.specs.Digest.{xxh64}
 use Rattle.jx_file_index.specs.Index.{IsIndexOf}
 use Rattle.jx_file_index.specs.declared.saved_text.SavedText.{SavedText}
-use Rattle.jx_file_build.specs.FedNames.{KeepsNames}
+use Rattle.jx_file_build.specs.TextTables.{KeepsNames}
 use Rattle.jx_file_index.specs.SavedTexts.{IsSavableToo}
 use Rattle.jx_file_index.specs.TextSpelling.{spelt_saved}
 

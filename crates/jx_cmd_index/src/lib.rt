@@ -17,7 +17,6 @@ mod saved_reading;
 mod saving;
 mod splitting;
 mod text_reading;
-mod text_saving;
 mod value_lines;
 mod value_reading;
 mod values_reporting;

@@ -1,12 +1,12 @@
-// The state of an input whose index is saved, while it is read.
-ghost use Rattle.std.specs.Prelude.{◌≡◌, ◌++◌, [], ℕ, List, IfOk, OnOk};
+// The state of an input whose index is saved, with tables of its names where these are asked for, while it is read.
+ghost use Rattle.std.specs.Prelude.{◌≡◌, ◌++◌, [], ℕ, Bool, List, IfOk, OnOk};
 ghost use Rattle.jx_run.specs.declared.texts.settings.NameRule.TheVariants.{Unique};
 ghost use Rattle.jx_run.specs.declared.texts.settings.Settings.{Settings};
 ghost use Rattle.jx_file_index.specs.Index.{IsIndexOf};
-ghost use Rattle.jx_cmd_index.specs.inside.Saving.{Comes, IsByNames, IsSavingOf, any_names};
+ghost use Rattle.jx_cmd_index.specs.inside.Saving.{ComesToSaved, IsByNames, IsSavingOf, any_names};
 
 use jx_file_build::Indexer;
-use jx_file_index::{ChunkSize, Index};
+use jx_file_index::{ChunkSize, Index, SavedText};
 use jx_names::NamesReader;
 use jx_run::{NameRule, Refusal, Settings, Verdict, unique_verdict_by_settings};
 use std::alloc::{AllocError, Global};
@@ -14,7 +14,7 @@ use std::alloc::{AllocError, Global};
 /// The state of an input that is read.
 #[derive(Drop)]
 pub(crate) enum Saving {
-    /// The index of a text.
+    /// The index and tables of a text.
     Any(Indexer),
     /// The same of a text whose names have to be unique.
     Unique {
@@ -59,8 +59,12 @@ fn with_unique_names(index: Index) -> Index
 }
 
 /// The result for a text whose names have this verdict.
-fn finish_by_names(indexer: Indexer, verdict: Verdict) -> Result<Result<Index, Refusal>, AllocError>
-    ensures { IfOk result (λ read. (settings : Settings) (chunk : ℕ) (bytes : List ℕ) → IsByNames settings chunk bytes indexer verdict → Comes settings chunk bytes read) }
+fn finish_by_names(
+    indexer: Indexer,
+    verdict: Verdict,
+) -> Result<Result<SavedText, Refusal>, AllocError>
+    ensures { IfOk result (λ read. (has_names : Bool) (settings : Settings) (chunk : ℕ) (bytes : List ℕ) → IsByNames has_names settings chunk bytes indexer verdict
+        → ComesToSaved has_names settings chunk bytes read) }
 {
     unique_verdict_by_settings();
     match verdict {
@@ -68,7 +72,10 @@ fn finish_by_names(indexer: Indexer, verdict: Verdict) -> Result<Result<Index, R
         Verdict::Accepted => {
             let read = indexer.finish()?;
             match read {
-                Ok(index) => Ok(Ok(with_unique_names(index))),
+                Ok(saved) => Ok(Ok(SavedText {
+                    index: with_unique_names(saved.index),
+                    names: saved.names,
+                })),
                 Err(refusal) => Ok(Err(refusal)),
             }
         }
@@ -77,13 +84,13 @@ fn finish_by_names(indexer: Indexer, verdict: Verdict) -> Result<Result<Index, R
 
 impl Saving {
     /// Before the first byte.
-    pub fn new(alloc: Global, settings: &Settings, chunk: ChunkSize) -> Saving
-        ensures { IsSavingOf settings.now chunk [] result }
+    pub fn new(alloc: Global, settings: &Settings, chunk: ChunkSize, has_names: bool) -> Saving
+        ensures { IsSavingOf has_names settings.now chunk [] result }
     {
         match settings.names {
-            NameRule::Any => Saving::Any(Indexer::new(alloc, settings, chunk)),
+            NameRule::Any => Saving::Any(Indexer::new(alloc, settings, chunk, has_names)),
             NameRule::Unique => Saving::Unique {
-                indexer: Indexer::new(alloc, &any_names(settings), chunk),
+                indexer: Indexer::new(alloc, &any_names(settings), chunk, has_names),
                 names: NamesReader::new(alloc, settings),
             },
         }
@@ -91,7 +98,8 @@ impl Saving {
 
     /// Reads a batch after what was read. It is also out of memory where the last byte has no offset.
     pub fn feed(&mut self, batch: &[u8]) -> Result<(), AllocError>
-        ensures { OnOk result ((settings : Settings) (chunk : ℕ) (bytes : List ℕ) → IsSavingOf settings chunk bytes self.old → IsSavingOf settings chunk (bytes ++ batch.now) self.new) }
+        ensures { OnOk result ((has_names : Bool) (settings : Settings) (chunk : ℕ) (bytes : List ℕ) → IsSavingOf has_names settings chunk bytes self.old
+            → IsSavingOf has_names settings chunk (bytes ++ batch.now) self.new) }
     {
         match self {
             Saving::Any(indexer) => indexer.feed(batch),
@@ -105,9 +113,10 @@ impl Saving {
         }
     }
 
-    /// The index of the text that all bytes read make, or why they are not a text.
-    pub fn finish(self) -> Result<Result<Index, Refusal>, AllocError>
-        ensures { IfOk result (λ read. (settings : Settings) (chunk : ℕ) (bytes : List ℕ) → IsSavingOf settings chunk bytes self → Comes settings chunk bytes read) }
+    /// The index and tables of the text that all bytes read make, or why they are not a text.
+    pub fn finish(self) -> Result<Result<SavedText, Refusal>, AllocError>
+        ensures { IfOk result (λ read. (has_names : Bool) (settings : Settings) (chunk : ℕ) (bytes : List ℕ) → IsSavingOf has_names settings chunk bytes self
+            → ComesToSaved has_names settings chunk bytes read) }
     {
         match self {
             Saving::Any(indexer) => indexer.finish(),

@@ -3,7 +3,7 @@ ghost use Rattle.std.specs.Prelude.{◌≡◌, ◌≢◌, ◌≤◌, ◌↔◌, 
 ghost use Rattle.jx_ends.specs.declared.report_fault.ReportFault.TheVariants.{Read, Write};
 ghost use Rattle.jx_cmd_index.specs.inside.Saving.{IsRead};
 
-use crate::text_saving::TextSaving;
+use crate::saving::Saving;
 use jx_ends::{ReportFault, Source, fill_buffer};
 use jx_file_index::{ChunkSize, SavedText};
 use jx_run::{Refusal, Settings};
@@ -26,7 +26,7 @@ pub(crate) fn read_text<S: Source>(
     ensures uncut { IfErr result (λ fault. fault ≢ ReportFault.Pieces) }
 {
     let mut buffer = Vec::new(alloc);
-    let mut saving = TextSaving::new(alloc, settings, chunk, has_names);
+    let mut saving = Saving::new(alloc, settings, chunk, has_names);
     'batches: for _ in 0..u64::MAX {
         let filled = fill_buffer(reader, &mut buffer, batch)?;
         saving.feed(&buffer[..filled])?;

@@ -16,9 +16,11 @@ use Rattle.jx_run.specs.Reading.{went, stopped, too_deep, read}
 use Rattle.jx_run.specs.Settings.{JudgedBy}
 use Rattle.jx_lex.specs.Lex.{lex}
 use Rattle.jx_run.proofs.Tellings.{rest_of}
-use Rattle.jx_file_index.specs.declared.entry.Entry.{Entry}
 use Rattle.jx_file_index.specs.Chunks.{entries_of}
 use Rattle.jx_file_build.specs.Held.{AreAll, AreHeld, AreWhole, HeldValue, IsEntered}
+use Rattle.jx_file_build.specs.Indexer.{HasFed}
+use Rattle.jx_file_build.specs.declared.indexer.Indexer.{Indexer}
+use Rattle.jx_file_build.specs.inside.NamedChunks.{AreNames}
 use Rattle.jx_file_build.proofs.Readings.{whole_more}
 
 pub is_none : {A : Type 0} (xs : List A) (b : Bool) → b ≡ (length xs == 0) → b ≡ true → xs ≡ []
@@ -29,24 +31,24 @@ is_some xs b is e = let t : (length xs == 0) ≡ false = sym is ∙ e in grind (
 
 -- ---- a part of a chunk is held
 
-pub part_none : (settings : Settings) (size : ℕ) (h : HeldValue) → AreWhole settings size [] h → 0 < size → AreHeld settings size [] h []
-part_none settings size h whole some = record { before = []; bytes_are = refl; whole = whole; short = some }
+pub part_none : (has_names : Bool) (settings : Settings) (size : ℕ) (h : HeldValue) → AreWhole has_names settings size [] h → 0 < size → AreHeld has_names settings size [] h []
+part_none has_names settings size h whole some = record { before = []; bytes_are = refl; whole = whole; short = some }
 
-module _ (settings : Settings) (size : ℕ) (bytes more : List ℕ) (h : HeldValue) (part : List ℕ) (was : AreHeld settings size bytes h part) where
+module _ (has_names : Bool) (settings : Settings) (size : ℕ) (bytes more : List ℕ) (h : HeldValue) (part : List ℕ) (was : AreHeld has_names settings size bytes h part) where
   longer : bytes ++ more ≡ was.before ++ (part ++ more)
   longer = ap (λ (xs : List ℕ). xs ++ more) was.bytes_are ∙ append_assoc was.before part more
 
   -- it is not whole yet
-  pub part_more : (now : List ℕ) → now ≡ part ++ more → length now < size → AreHeld settings size (bytes ++ more) h now
+  pub part_more : (now : List ℕ) → now ≡ part ++ more → length now < size → AreHeld has_names settings size (bytes ++ more) h now
   part_more now is short = record { before = was.before; bytes_are = longer ∙ ap (λ (xs : List ℕ). was.before ++ xs) (sym is); whole = was.whole; short = short }
 
   -- it is whole, and was read
   pub part_read : (full : List ℕ) (next : HeldValue) → full ≡ part ++ more → length full ≡ size → length next.entries ≡ suc (length h.entries)
-      → ((before : List ℕ) → AreWhole settings size before h → length full ≤ size → IsEntered settings size (before ++ full) next) → AreHeld settings size (bytes ++ more) next []
+      → ((before : List ℕ) → AreWhole has_names settings size before h → length full ≤ size → IsEntered has_names settings size (before ++ full) next) → AreHeld has_names settings size (bytes ++ more) next []
   part_read full next is long count entered = record {
     before = was.before ++ full;
     bytes_are = longer ∙ ap (λ (xs : List ℕ). was.before ++ xs) (sym is) ∙ sym (append-nil (was.before ++ full));
-    whole = whole_more settings size was.before full h next was.whole long count (entered was.before was.whole (omega (arith, long)));
+    whole = whole_more has_names settings size was.before full h next was.whole long count (entered was.before was.whole (omega (arith, long)));
     short = let s = was.short in omega (arith, s);
   }
 
@@ -56,22 +58,22 @@ piece_long xs at size fits =
     let d : length (drop at xs) ≡ length xs - at = length-drop at xs in
     length-take-le ((at + size) - at) (drop at xs) (omega (arith, d, fits)) ∙ (let e : (at + size) - at ≡ size = omega arith in e)
 
-pub chunk_added : (settings : Settings) (size : ℕ) (before bytes : List ℕ) (at : ℕ) (mid next : HeldValue) → at + size ≤ length bytes → AreWhole settings size (before ++ take at bytes) mid
+pub chunk_added : (has_names : Bool) (settings : Settings) (size : ℕ) (before bytes : List ℕ) (at : ℕ) (mid next : HeldValue) → at + size ≤ length bytes → AreWhole has_names settings size (before ++ take at bytes) mid
     → length next.entries ≡ suc (length mid.entries)
-    → ((xs : List ℕ) → AreWhole settings size xs mid → length (slice_range bytes at (at + size)) ≤ size → IsEntered settings size (xs ++ slice_range bytes at (at + size)) next)
-    → AreWhole settings size (before ++ take (at + size) bytes) next
-chunk_added settings size before bytes at mid next fits whole count entered =
+    → ((xs : List ℕ) → AreWhole has_names settings size xs mid → length (slice_range bytes at (at + size)) ≤ size → IsEntered has_names settings size (xs ++ slice_range bytes at (at + size)) next)
+    → AreWhole has_names settings size (before ++ take (at + size) bytes) next
+chunk_added has_names settings size before bytes at mid next fits whole count entered =
     let piece = slice_range bytes at (at + size) in
     let long : length piece ≡ size = piece_long bytes at size fits in
     let taken : take (at + size) bytes ≡ take at bytes ++ piece =
     take-add at size bytes ∙ ap (λ (n : ℕ). take at bytes ++ take n (drop at bytes)) (let e : size ≡ (at + size) - at = omega arith in e) in
-    subst (λ (xs : List ℕ). AreWhole settings size xs next) (append_assoc before (take at bytes) piece ∙ ap (λ (xs : List ℕ). before ++ xs) (sym taken))
-    (whole_more settings size (before ++ take at bytes) piece mid next whole long count (entered (before ++ take at bytes) whole (omega (arith, long))))
+    subst (λ (xs : List ℕ). AreWhole has_names settings size xs next) (append_assoc before (take at bytes) piece ∙ ap (λ (xs : List ℕ). before ++ xs) (sym taken))
+    (whole_more has_names settings size (before ++ take at bytes) piece mid next whole long count (entered (before ++ take at bytes) whole (omega (arith, long))))
 
 -- the rest of a slice: where a part is held, there is none
-module _ (settings : Settings) (size : ℕ) (bytes slice rest : List ℕ) (n k : ℕ) (mid next : HeldValue) (part now : List ℕ)
-    (was : AreHeld settings size (bytes ++ take n slice) mid part) (within : n ≤ length slice) (rest_is : rest ≡ slice_range slice n (length slice))
-    (reads_on : (before : List ℕ) → AreWhole settings size before mid → AreWhole settings size (before ++ take k rest) next)
+module _ (has_names : Bool) (settings : Settings) (size : ℕ) (bytes slice rest : List ℕ) (n k : ℕ) (mid next : HeldValue) (part now : List ℕ)
+    (was : AreHeld has_names settings size (bytes ++ take n slice) mid part) (within : n ≤ length slice) (rest_is : rest ≡ slice_range slice n (length slice))
+    (reads_on : (before : List ℕ) → AreWhole has_names settings size before mid → AreWhole has_names settings size (before ++ take k rest) next)
     (left : k ≤ length rest) (few : length rest - k < size) (now_is : now ≡ part ++ slice_range rest k (length rest)) where
   all_bytes : bytes ++ slice ≡ (was.before ++ part) ++ rest
   all_bytes =
@@ -83,7 +85,7 @@ module _ (settings : Settings) (size : ℕ) (bytes slice rest : List ℕ) (n k :
   behind : now ≡ part ++ drop k rest
   behind = now_is ∙ ap (λ (xs : List ℕ). part ++ xs) (rest_of rest k left)
 
-  pub rest_none : part ≡ [] → AreHeld settings size (bytes ++ slice) next now
+  pub rest_none : part ≡ [] → AreHeld has_names settings size (bytes ++ slice) next now
   rest_none none = record {
     before = was.before ++ take k rest;
     bytes_are =
@@ -100,7 +102,7 @@ module _ (settings : Settings) (size : ℕ) (bytes slice rest : List ℕ) (n k :
         omega (arith, e, d, few);
   }
 
-  pub rest_some : rest ≡ [] → AreHeld settings size (bytes ++ slice) next now
+  pub rest_some : rest ≡ [] → AreHeld has_names settings size (bytes ++ slice) next now
   rest_some none =
       let zero_is : k ≡ 0 = let l : length rest ≡ 0 = ap (λ (xs : List ℕ). length xs) none in omega (arith, left, l) in
       let taken : take k rest ≡ [] = ap (λ (i : ℕ). take i rest) zero_is in
@@ -108,14 +110,14 @@ module _ (settings : Settings) (size : ℕ) (bytes slice rest : List ℕ) (n k :
       record {
         before = was.before;
         bytes_are = all_bytes ∙ ap (λ (xs : List ℕ). (was.before ++ part) ++ xs) none ∙ append-nil (was.before ++ part) ∙ ap (λ (xs : List ℕ). was.before ++ xs) (sym now_part);
-        whole = subst (λ (xs : List ℕ). AreWhole settings size xs next) (ap (λ (xs : List ℕ). was.before ++ xs) taken ∙ append-nil was.before) (reads_on was.before was.whole);
+        whole = subst (λ (xs : List ℕ). AreWhole has_names settings size xs next) (ap (λ (xs : List ℕ). was.before ++ xs) taken ∙ append-nil was.before) (reads_on was.before was.whole);
         short = let s = was.short in let e : length now ≡ length part = ap (λ (xs : List ℕ). length xs) now_part in omega (arith, s, e);
       }
 
-  pub rest_fed : (0 < length part → n ≡ length slice) → AreHeld settings size (bytes ++ slice) next now
+  pub rest_fed : (0 < length part → n ≡ length slice) → AreHeld has_names settings size (bytes ++ slice) next now
   rest_fed all = pick part refl
     where
-      pick : (xs : List ℕ) → part ≡ xs → AreHeld settings size (bytes ++ slice) next now
+      pick : (xs : List ℕ) → part ≡ xs → AreHeld has_names settings size (bytes ++ slice) next now
       pick [] e = rest_none e
       pick (x ∷ xs) e =
           let l : length part ≡ suc (length xs) = ap (λ (ys : List ℕ). length ys) e in
@@ -126,28 +128,37 @@ module _ (settings : Settings) (size : ℕ) (bytes slice rest : List ℕ) (n k :
 
 -- ---- all bytes
 
-pub all_none : (settings : Settings) (size : ℕ) (bytes : List ℕ) (h : HeldValue) (part : List ℕ) → part ≡ [] → AreHeld settings size bytes h part → AreAll settings size bytes h
-all_none settings size bytes h part none was =
+pub all_none : (has_names : Bool) (settings : Settings) (size : ℕ) (bytes : List ℕ) (h : HeldValue) (part : List ℕ) → part ≡ [] → AreHeld has_names settings size bytes h part → AreAll has_names settings size bytes h
+all_none has_names settings size bytes h part none was =
     let same : was.before ≡ bytes = sym (was.bytes_are ∙ ap (λ (xs : List ℕ). was.before ++ xs) none ∙ append-nil was.before) in
     let w = was.whole.whole in
     let s = was.short in
-    subst (λ (xs : List ℕ). AreAll settings size xs h) same
+    subst (λ (xs : List ℕ). AreAll has_names settings size xs h) same
     (record { entered = was.whole.entered; counted = record { enough = omega (arith, w); fewest = omega (arith, w, s) } })
 
-pub all_more : (settings : Settings) (size : ℕ) (bytes : List ℕ) (h next : HeldValue) (part : List ℕ) → 0 < length part → AreHeld settings size bytes h part → length next.entries ≡ suc (length h.entries)
-    → ((before : List ℕ) → AreWhole settings size before h → length part ≤ size → IsEntered settings size (before ++ part) next) → AreAll settings size bytes next
-all_more settings size bytes h next part some was count entered =
+pub all_more : (has_names : Bool) (settings : Settings) (size : ℕ) (bytes : List ℕ) (h next : HeldValue) (part : List ℕ) → 0 < length part → AreHeld has_names settings size bytes h part → length next.entries ≡ suc (length h.entries)
+    → ((before : List ℕ) → AreWhole has_names settings size before h → length part ≤ size → IsEntered has_names settings size (before ++ part) next) → AreAll has_names settings size bytes next
+all_more has_names settings size bytes h next part some was count entered =
     let w = was.whole.whole in
     let s = was.short in
     let m : suc (length h.entries) * size ≡ length h.entries * size + size = suc-mul (length h.entries) size in
     let c : length next.entries * size ≡ suc (length h.entries) * size = ap (λ (n : ℕ). n * size) count in
     let l : length (was.before ++ part) ≡ length was.before + length part = length-append was.before part in
-    subst (λ (xs : List ℕ). AreAll settings size xs next) (sym was.bytes_are)
+    subst (λ (xs : List ℕ). AreAll has_names settings size xs next) (sym was.bytes_are)
     (record { entered = entered was.before was.whole (omega (arith, s)); counted = record { enough = omega (arith, w, s, m, c, l); fewest = omega (arith, w, s, m, c, l, some) } })
 
+-- what an indexer was fed, once its last chunk is read
+pub fed_all : (has_names : Bool) (settings : Settings) (chunk : ℕ) (bytes : List ℕ) (i : Indexer) (held all : HeldValue) (part : List ℕ) → HasFed has_names settings chunk bytes i → i.held ≡ Some held
+    → part ≡ i.part.items → ((b : Bool) (s : Settings) (size : ℕ) (bs : List ℕ) → AreHeld b s size bs held part → AreAll b s size bs all) → AreAll has_names i.settings i.chunk bytes all
+fed_all has_names settings chunk bytes i held all part h is part_is read =
+    let same : h.kept ≡ held = let e : Some h.kept ≡ Some held = sym h.kept_is ∙ is in cc in
+    let was : AreHeld has_names settings chunk bytes held part =
+    subst (λ (k : HeldValue). AreHeld has_names settings chunk bytes k part) same (subst (λ (xs : List ℕ). AreHeld has_names settings chunk bytes h.kept xs) (sym part_is) h.held) in
+    subst (λ (s : Settings). AreAll has_names s i.chunk bytes all) (sym h.settings_are) (subst (λ (n : ℕ). AreAll has_names settings n bytes all) (sym h.chunk_is) (read has_names settings chunk bytes was))
+
 -- no entry, no byte
-pub none_counted : (settings : Settings) (size : ℕ) (bytes : List ℕ) (h : HeldValue) → length h.entries ≡ 0 → AreAll settings size bytes h → length bytes ≡ 0
-none_counted settings size bytes h none all =
+pub none_counted : (has_names : Bool) (settings : Settings) (size : ℕ) (bytes : List ℕ) (h : HeldValue) → length h.entries ≡ 0 → AreAll has_names settings size bytes h → length bytes ≡ 0
+none_counted has_names settings size bytes h none all =
     let e = all.counted.enough in
     let z : length h.entries * size ≡ 0 * size = ap (λ (n : ℕ). n * size) none in
     omega (arith, e, z)
@@ -161,10 +172,15 @@ accepted_goes (reads (went s e o)) h = refl
 accepted_goes (reads (stopped at)) h = absurd cc
 accepted_goes (reads (too_deep at)) h = absurd cc
 
-pub accepted_entries : (settings : Settings) (size : ℕ) (bytes : List ℕ) (h : HeldValue) → verdict_on (read_by settings.mark settings.depth 0 bytes) ≡ verdict.Accepted → AreAll settings size bytes h
+pub accepted_entries : (has_names : Bool) (settings : Settings) (size : ℕ) (bytes : List ℕ) (h : HeldValue) → verdict_on (read_by settings.mark settings.depth 0 bytes) ≡ verdict.Accepted → AreAll has_names settings size bytes h
     → h.entries ≡ entries_of settings size bytes (length h.entries)
-accepted_entries settings size bytes h accepted all =
+accepted_entries has_names settings size bytes h accepted all =
     all.entered.entries (subst (λ (o : Option Outcome). is_fault o ≡ false) (sym all.entered.read.outcome) (accepted_goes (read_by settings.mark settings.depth 0 bytes) accepted))
+
+pub accepted_names : (has_names : Bool) (settings : Settings) (size : ℕ) (bytes : List ℕ) (h : HeldValue) → verdict_on (read_by settings.mark settings.depth 0 bytes) ≡ verdict.Accepted → AreAll has_names settings size bytes h
+    → AreNames has_names settings size bytes (length h.entries) h.names
+accepted_names has_names settings size bytes h accepted all =
+    all.entered.names (subst (λ (o : Option Outcome). is_fault o ≡ false) (sym all.entered.read.outcome) (accepted_goes (read_by settings.mark settings.depth 0 bytes) accepted))
 
 -- no byte is no text
 none_verdict : (m : FrontMark) (limit : ℕ) → verdict_on (read_by m limit 0 []) ≡ verdict.Refused Truncated

@@ -1,5 +1,5 @@
 -- What is kept of names fits the bytes of tables, and these are saved beside the index of their text.
-use Rattle.std.proofs.Common.{◌≡◌, ℕ, ◌≤◌, List, [], ◌∷◌, ◌++◌, length, sym, ap, subst, ◌∙◌, arith, Bool, true, false, Option, Some}
+use Rattle.std.proofs.Common.{◌≡◌, ℕ, ◌≤◌, List, [], ◌∷◌, ◌++◌, length, sym, ap, subst, ◌∙◌, arith, Bool, true, false, Option, None, Some}
 use Rattle.std.specs.Prelude.{not}
 use Rattle.std.specs.List.{AllByRecursion}
 use Rattle.std.specs.List.Sorted.{IsPermutation}
@@ -13,12 +13,11 @@ use Rattle.jx_file_index.specs.Chunks.{IsCount}
 use Rattle.jx_file_index.specs.Index.{IsIndexOf}
 use Rattle.jx_file_index.specs.declared.name_tables.NameTable.{NameTable}
 use Rattle.jx_file_index.specs.declared.name_tables.NameTables.{NameTables}
-use Rattle.jx_file_build.specs.FedNames.{HasFed, HasTables}
-use Rattle.jx_file_build.specs.NamesIfAsked.{IsMakerFed}
-use Rattle.jx_file_index.specs.SavedTexts.{FitsKeys, FitsTable, HasItsTables, IsWord}
+use Rattle.jx_file_build.specs.TextTables.{HasNames, HasTables}
+use Rattle.jx_file_index.specs.SavedTexts.{FitsKeys, FitsTable, HasItsTables, HasTablesToo, IsWord}
 use Rattle.jx_file_build.specs.declared.named_chunks.NamedChunks.{NamedChunks}
-use Rattle.jx_file_build.specs.declared.names_maker.NamesMaker.{NamesMaker}
-use Rattle.jx_file_build.specs.inside.NameBlocks.{FitBlocks, IsKeyCount}
+use Rattle.jx_file_build.specs.inside.NameBlocks.{IsKeyCount}
+use Rattle.jx_file_build.specs.inside.NamedChunks.{AreFit, FitChunks, FitTables}
 
 -- ---- the keys of a block
 
@@ -59,13 +58,14 @@ are_savable settings chunk text tables index has fit is = record {
   fits = fit;
 }
 
--- ---- what a maker holds
+pub tables_savable : (has_names : Bool) (settings : Settings) (chunk : ℕ) (text : List ℕ) (tables : Option NameTables) (index : Index) → HasNames has_names settings chunk text tables → FitTables tables
+    → IsIndexOf settings chunk text index → HasTablesToo index tables
+tables_savable true settings chunk text (Some t) index has fit is = are_savable settings chunk text t index has fit is
+tables_savable true settings chunk text None index has fit is = tt
+tables_savable false settings chunk text (Some t) index has fit is = absurd has
+tables_savable false settings chunk text None index has fit is = tt
 
-pub kept_fit : (kept held : NamedChunks) → kept ≡ held → FitBlocks kept.blocks → FitBlocks held.blocks
-kept_fit kept held same fit = subst (λ (k : NamedChunks). FitBlocks k.blocks) same fit
+-- ---- what is held
 
--- where there is a maker, it was fed
-pub maker_fed : (has_names : Bool) (settings : Settings) (chunk : ℕ) (text : List ℕ) (held : Option NamesMaker) (maker : NamesMaker) → held ≡ Some maker
-    → IsMakerFed has_names settings chunk text held → HasFed settings chunk text maker
-maker_fed true settings chunk text held maker is fed = subst (λ (o : Option NamesMaker). IsMakerFed true settings chunk text o) is fed
-maker_fed false settings chunk text held maker is fed = absurd (subst (λ (o : Option NamesMaker). IsMakerFed false settings chunk text o) is fed)
+pub held_fit : (held : Option NamedChunks) (c : NamedChunks) → held ≡ Some c → AreFit held → FitChunks c
+held_fit held c is fit = subst AreFit is fit

@@ -3,7 +3,6 @@ pub mod Feedings
 pub mod Filling
 pub mod Fitting
 pub mod Gathering
-pub mod NamesFed
 pub mod NamesRead
 pub mod Readings
 pub mod Tallies

@@ -1,33 +1,34 @@
 -- The names of chunks that are read one behind another.
-use Rattle.std.proofs.Common.{◌≡◌, ℕ, suc, ◌+◌, ◌-◌, ◌*◌, ◌≤◌, List, [], ◌∷◌, ◌++◌, length, take, drop, map, sym, ◌∙◌, ap, subst, arith, false, Option, None, Some}
-use Rattle.std.proofs.lemmas.List.{drop-append-le, length-append, length-drop, take-append-le, take_all}
+use Rattle.std.proofs.Common.{◌≡◌, ℕ, suc, ◌+◌, ◌*◌, ◌≤◌, List, [], ◌∷◌, ◌++◌, length, take, drop, map, refl, sym, ◌∙◌, ap, subst, arith, Bool, true, false, Option, None, Some}
+use Rattle.std.specs.Prelude.{is_some}
+use Rattle.std.proofs.lemmas.List.{length-append, take-append-le, take_all}
 use Rattle.std.proofs.lemmas.List.Sums.{fold-append}
 use Rattle.std.proofs.Math.Nat.{suc-mul}
 use Rattle.std.proofs.Math.Seq.{drop-append_seam, take-append_seam}
 use Rattle.jx_lex.specs.declared.alphabet.mark.Mark.{Mark}
 use Rattle.jx_lex.specs.Lex.{Track}
-use Rattle.jx_reduce.specs.KnownStack.{start}
+use Rattle.jx_reduce.specs.KnownStack.{Known, start}
 use Rattle.jx_reduce.specs.Read.{Reading, step, read}
-use Rattle.jx_run.specs.Reader.{HasRead, Outcome, ReaderValue, is_fault, read_by}
+use Rattle.jx_run.specs.declared.readers.progress.Progress.{Progress}
+use Rattle.jx_run.specs.Reader.{Outcome, ReaderValue, is_fault, read_by}
+use Rattle.jx_run.specs.ReaderInside.{IsReadTo, outcome_at}
 use Rattle.jx_run.specs.Telling.{moved_ends, moved_marks, no_tokens, tokens_by, track_of}
 use Rattle.jx_run.specs.declared.texts.settings.Settings.{Settings}
 use Rattle.jx_index.specs.inside.InTurn.{IsInTurn}
-use Rattle.jx_file_index.specs.Chunks.{before, part}
+use Rattle.jx_index.proofs.InTurns.{first_turn}
+use Rattle.jx_file_index.specs.Chunks.{IsCount, before, part}
+use Rattle.jx_file_index.specs.declared.name_tables.NameTables.{NameTables}
 use Rattle.jx_file_index.specs.NameHash.{name_hash}
 use Rattle.jx_file_index.specs.Named.{AreNamed, more, none, reading_before, track_at}
 use Rattle.jx_file_index.specs.Names.{NamesOf}
-use Rattle.jx_file_build.specs.declared.blocks.Blocks.{Blocks}
 use Rattle.jx_file_build.specs.declared.named_chunks.NamedChunks.{NamedChunks}
+use Rattle.jx_file_build.specs.declared.standing.Standing.{Standing}
 use Rattle.jx_file_build.specs.declared.standing.ToldChunk.{ToldChunk}
-use Rattle.jx_file_build.specs.inside.NameBlocks.{AreBlocksOf}
-use Rattle.jx_file_build.specs.inside.ChunkNames.{IsTold, Start}
-use Rattle.jx_file_build.specs.inside.NamedChunks.{AreRead, AreTold, AreWhole}
-
--- whole parts stay
-part_stays : (size : ℕ) (xs rest : List ℕ) (n : ℕ) → n * size + size ≤ length xs → part size (xs ++ rest) n ≡ part size xs n
-part_stays size xs rest n fits =
-    ap (take size) (drop-append-le (n * size) xs rest (omega (arith, fits)))
-    ∙ take-append-le size (drop (n * size) xs) rest (let e : length (drop (n * size) xs) ≡ length xs - n * size = length-drop (n * size) xs in omega (arith, e, fits))
+use Rattle.jx_file_build.specs.TextTables.{HasNames, HasTables}
+use Rattle.jx_file_build.specs.inside.NameBlocks.{AreBlocksOf, AreBlockTables}
+use Rattle.jx_file_build.specs.inside.ChunkNames.{HoldsName, IsTold, Start}
+use Rattle.jx_file_build.specs.inside.NamedChunks.{AreBegun, AreNames, AreNamesAt, AreTold}
+use Rattle.jx_file_build.proofs.Readings.{part_stays}
 
 -- ---- the names of a text that grows
 
@@ -77,106 +78,113 @@ named_more settings size xs chunk n begun later names own whole fits h of =
 -- ---- chunk by chunk
 
 -- no byte was read
-pub none_read : (settings : Settings) (size : ℕ) (c : NamedChunks) → c.reader.settings ≡ settings → c.reader.start ≡ 0 → HasRead [] c.reader
-    → c.standing.stack.depth ≡ settings.depth → c.standing.stack.reading ≡ start → c.standing.begun ≡ None → AreBlocksOf [] c.blocks → tokens_by settings.mark [] ≡ no_tokens
-    → AreWhole settings size [] c
-none_read settings size c same zero_is read_is deep reads free blocks none_told = record {
-  are = record {
-    settings_are = same;
-    start_is = zero_is;
-    read_is = read_is;
-    told = λ going. record {
-      depth = deep;
-      reading = reads ∙ ap (λ (t : Track). read settings.depth t.marks start) (sym none_told);
-      names = [];
-      named =
-          subst (λ (n : ℕ). AreNamed settings size [] n c.standing.begun []) (sym blocks.chunks)
-          (subst (λ (o : Option Mark). AreNamed settings size [] 0 o []) (sym free) none);
-      name_is = λ m e behind. let no : None ≡ Some m = sym free ∙ e in absurd cc;
-      blocks = blocks;
-    };
-  };
-  whole = let n = blocks.chunks in let z : c.blocks.chunks * size ≡ 0 * size = ap (λ (i : ℕ). i * size) n in omega (arith, z);
+pub none_told : (settings : Settings) (size : ℕ) (c : NamedChunks) → c.standing.stack.depth ≡ settings.depth → c.standing.stack.reading ≡ start → c.standing.begun ≡ None → AreBlocksOf [] c.blocks
+    → tokens_by settings.mark [] ≡ no_tokens → AreTold settings size [] 0 c
+none_told settings size c deep reads free blocks no_token = record {
+  depth = deep;
+  reading = reads ∙ ap (λ (t : Track). read settings.depth t.marks start) (sym no_token);
+  names = [];
+  named = subst (λ (o : Option Mark). AreNamed settings size [] 0 o []) (sym free) none;
+  name_is = λ m e behind. let no : None ≡ Some m = sym free ∙ e in absurd cc;
+  blocks = blocks;
+  counted = blocks.chunks;
 }
 
+-- where a reading begins, no token has begun
+pub none_begun : (settings : Settings) (progress : Progress) (stack : Known) (names : Option NamedChunks) → IsReadTo settings 0 [] progress stack
+    → ((c : NamedChunks) → names ≡ Some c → c.standing.begun ≡ None) → AreBegun (outcome_at progress stack.reading) names
+none_begun settings progress stack names read free = λ c is.
+    let at_start : ReaderValue = record { settings = settings; start = 0; count = 0; outcome = outcome_at progress stack.reading } in
+    first_turn at_start c.standing.begun (record { count = refl; outcome = read.outcome }) (ap is_some (free c is))
+
+pub some_begun : (outcome : Option Outcome) (c : NamedChunks) → IsInTurn outcome c.standing.begun → AreBegun outcome (Some c)
+some_begun outcome c turn = λ h is. let same : c ≡ h = cc in subst (λ (x : NamedChunks). IsInTurn outcome x.standing.begun) same turn
+
 -- what stands before the next chunk
-abbrev pub before_chunk : NamedChunks → List ℕ → Start
-before_chunk c chunk = record {
+abbrev pub before_chunk : NamedChunks → ℕ → List ℕ → Start
+before_chunk c base chunk = record {
   stack = c.standing.stack;
   begun = c.standing.begun;
   name = c.standing.name.items;
-  base = c.reader.start + c.reader.count;
+  base = base;
   chunk = chunk;
 }
 
 -- one chunk more
-module _ (settings : Settings) (size : ℕ) (bytes chunk : List ℕ) (c : NamedChunks) (was : AreWhole settings size bytes c) (fits : length chunk ≤ size) (reader : ReaderValue) (told : ToldChunk) (blocks : Blocks)
-    (turn : IsInTurn reader.outcome told.standing.begun)
-    (same_settings : reader.settings ≡ c.reader.settings) (same_start : reader.start ≡ c.reader.start) (reads_on : (xs : List ℕ) → HasRead xs c.reader → HasRead (xs ++ chunk) reader)
-    (faults : is_fault (Some (read_by settings.mark settings.depth 0 (bytes ++ chunk))) ≡ false → is_fault (Some (read_by settings.mark settings.depth 0 bytes)) ≡ false)
-    (marks : is_fault (Some (read_by settings.mark settings.depth 0 bytes)) ≡ false
-    → (tokens_by settings.mark (bytes ++ chunk)).marks ≡ (tokens_by settings.mark bytes).marks ++ moved_marks (length bytes) (track_of (read_by settings.mark settings.depth 0 bytes) chunk).marks)
-    (tells : is_fault reader.outcome ≡ false → (came : Outcome) → c.reader.outcome ≡ Some came → IsTold (before_chunk c chunk) (track_of came chunk).marks (track_of came chunk).ends told)
-    (counted : blocks.chunks ≡ suc c.blocks.chunks)
-    (fills : (names : List (List (List ℕ))) (own : List (List ℕ)) → AreBlocksOf names c.blocks → told.hashes.items ≡ map name_hash own → AreBlocksOf (names ++ own ∷ []) blocks) where
-  abbrev new : NamedChunks
-  new = record { reader = reader; standing = told.standing; blocks = blocks; turn = turn }
+module _ (settings : Settings) (size : ℕ) (bytes chunk : List ℕ) (n base : ℕ) (at : base ≡ length bytes) (whole : length bytes ≡ n * size) (fits : length chunk ≤ size)
+    (p q : Progress) (k l : Known) (was : IsReadTo settings 0 bytes p k) (now : IsReadTo settings 0 (bytes ++ chunk) q l)
+    (faults : is_fault (Some (read_by settings.mark settings.depth 0 (bytes ++ chunk))) ≡ false → is_fault (Some (read_by settings.mark settings.depth 0 bytes)) ≡ false) where
+  -- no slice undoes a fault
+  pub goes_before : is_fault (outcome_at q l.reading) ≡ false → is_fault (outcome_at p k.reading) ≡ false
+  goes_before going =
+      subst (λ (o : Option Outcome). is_fault o ≡ false) (sym was.outcome) (faults (subst (λ (o : Option Outcome). is_fault o ≡ false) now.outcome going))
 
-  came : (v : ReaderValue) (xs : List ℕ) → v.settings ≡ settings → v.start ≡ 0 → HasRead xs v → v.outcome ≡ Some (read_by settings.mark settings.depth 0 xs)
-  came v xs same zero_is r =
-      r.outcome ∙ ap (λ (s : Settings). Some (read_by s.mark s.depth v.start xs)) same ∙ ap (λ (i : ℕ). Some (read_by settings.mark settings.depth i xs)) zero_is
+  -- where no names are asked for
+  pub none_on : (has_names : Bool) → AreNamesAt has_names settings size bytes n p k None → AreNamesAt has_names settings size (bytes ++ chunk) (suc n) q l None
+  none_on true told = λ going. told (goes_before going)
+  none_on false told = λ going. tt
 
-  now : HasRead (bytes ++ chunk) reader
-  now = reads_on bytes was.are.read_is
+  module _ (c new : NamedChunks) (told : ToldChunk) (same_open : new.standing ≡ told.standing) (counted : new.blocks.chunks ≡ suc c.blocks.chunks)
+      (marks : is_fault (Some (read_by settings.mark settings.depth 0 bytes)) ≡ false
+      → (tokens_by settings.mark (bytes ++ chunk)).marks ≡ (tokens_by settings.mark bytes).marks ++ moved_marks (length bytes) (track_of (read_by settings.mark settings.depth 0 bytes) chunk).marks)
+      (tells : is_fault (outcome_at q l.reading) ≡ false → (came : Outcome) → outcome_at p k.reading ≡ Some came
+      → IsTold (before_chunk c base chunk) (track_of came chunk).marks (track_of came chunk).ends told)
+      (fills : (names : List (List (List ℕ))) (own : List (List ℕ)) → AreBlocksOf names c.blocks → told.hashes.items ≡ map name_hash own → AreBlocksOf (names ++ own ∷ []) new.blocks) where
+    told_on : AreTold settings size bytes n c → is_fault (outcome_at q l.reading) ≡ false → AreTold settings size (bytes ++ chunk) (suc n) new
+    told_on t going =
+        let goes : is_fault (Some (read_by settings.mark settings.depth 0 bytes)) ≡ false = subst (λ (o : Option Outcome). is_fault o ≡ false) was.outcome (goes_before going) in
+        let track = track_of (read_by settings.mark settings.depth 0 bytes) chunk in
+        let d = t.depth in
+        let made = tells going (read_by settings.mark settings.depth 0 bytes) was.outcome in
+        let of = made.told_of bytes (sym at) t.name_is in
+        let all = (tokens_by settings.mark bytes).marks in
+        let grown : (tokens_by settings.mark (bytes ++ chunk)).marks ≡ all ++ moved_marks (length bytes) track.marks = marks goes in
+        let own : NamesAt settings (bytes ++ chunk) (read settings.depth all start) (length bytes) track c.standing.begun told.standing.begun of.names =
+        subst (λ (i : ℕ). NamesAt settings (bytes ++ chunk) (read settings.depth all start) i track c.standing.begun told.standing.begun of.names) at
+        (subst (λ (r : Reading). NamesAt settings (bytes ++ chunk) r base track c.standing.begun told.standing.begun of.names) t.reading
+        (subst (λ (i : ℕ). NamesOf (bytes ++ chunk) i c.standing.stack.reading c.standing.begun (moved_marks base track.marks) (moved_ends base track.ends) told.standing.begun of.names) d of.are)) in
+        let named = named_more settings size bytes chunk n c.standing.begun told.standing.begun t.names of.names whole fits t.named own in
+        let o = sym same_open in
+        record {
+          depth = subst (λ (s : Standing). s.stack.depth ≡ settings.depth) o (made.depth ∙ d);
+          reading =
+              ap (λ (s : Standing). s.stack.reading) same_open
+              ∙ made.reading
+              ∙ ap (λ (i : ℕ). read i (moved_marks base track.marks) c.standing.stack.reading) d
+              ∙ ap (λ (i : ℕ). read settings.depth (moved_marks i track.marks) c.standing.stack.reading) at
+              ∙ ap (read settings.depth (moved_marks (length bytes) track.marks)) t.reading
+              ∙ sym (fold-append (λ reading mark. step settings.depth mark reading) start all (moved_marks (length bytes) track.marks))
+              ∙ ap (λ (ms : List Mark). read settings.depth ms start) (sym grown);
+          names = t.names ++ of.names ∷ [];
+          named = subst (λ (s : Standing). AreNamed settings size (bytes ++ chunk) (suc n) s.begun (t.names ++ of.names ∷ [])) o named;
+          name_is = subst (λ (s : Standing). HoldsName (bytes ++ chunk) s.stack s.begun s.name.items) o of.name_is;
+          blocks = fills t.names of.names t.blocks of.hashes_are;
+          counted = counted ∙ ap suc t.counted;
+        }
 
-  then : c.reader.outcome ≡ Some (read_by settings.mark settings.depth 0 bytes)
-  then = came c.reader bytes was.are.settings_are was.are.start_is was.are.read_is
+    pub names_on : (has_names : Bool) → AreNamesAt has_names settings size bytes n p k (Some c) → AreNamesAt has_names settings size (bytes ++ chunk) (suc n) q l (Some new)
+    names_on true was_told = λ going. told_on (was_told (goes_before going)) going
+    names_on false was_told = λ going. was_told (goes_before going)
 
-  told_now : is_fault reader.outcome ≡ false → AreTold settings size (bytes ++ chunk) new
-  told_now going =
-      let is = came reader (bytes ++ chunk) (same_settings ∙ was.are.settings_are) (same_start ∙ was.are.start_is) now in
-      let goes : is_fault (Some (read_by settings.mark settings.depth 0 bytes)) ≡ false = faults (subst (λ (o : Option Outcome). is_fault o ≡ false) is going) in
-      let t = was.are.told (subst (λ (o : Option Outcome). is_fault o ≡ false) (sym then) goes) in
-      let track = track_of (read_by settings.mark settings.depth 0 bytes) chunk in
-      let s = before_chunk c chunk in
-      let d = t.depth in
-      let made = tells going (read_by settings.mark settings.depth 0 bytes) then in
-      let long : length bytes ≡ c.reader.start + c.reader.count = let z = was.are.start_is in let n = was.are.read_is.count in omega (arith, z, n) in
-      let of = made.told_of bytes long t.name_is in
-      let all = (tokens_by settings.mark bytes).marks in
-      let grown : (tokens_by settings.mark (bytes ++ chunk)).marks ≡ all ++ moved_marks (length bytes) track.marks = marks goes in
-      let own : NamesAt settings (bytes ++ chunk) (read settings.depth all start) (length bytes) track c.standing.begun told.standing.begun of.names =
-      subst (λ (i : ℕ). NamesAt settings (bytes ++ chunk) (read settings.depth all start) i track c.standing.begun told.standing.begun of.names) (sym long)
-      (subst (λ (r : Reading). NamesAt settings (bytes ++ chunk) r s.base track c.standing.begun told.standing.begun of.names) t.reading
-      (subst (λ (k : ℕ). NamesOf (bytes ++ chunk) k c.standing.stack.reading c.standing.begun (moved_marks s.base track.marks) (moved_ends s.base track.ends) told.standing.begun of.names) d of.are)) in
-      record {
-        depth = made.depth ∙ d;
-        reading =
-            made.reading
-            ∙ ap (λ (k : ℕ). read k (moved_marks s.base track.marks) c.standing.stack.reading) d
-            ∙ ap (λ (i : ℕ). read settings.depth (moved_marks i track.marks) c.standing.stack.reading) (sym long)
-            ∙ ap (read settings.depth (moved_marks (length bytes) track.marks)) t.reading
-            ∙ sym (fold-append (λ reading mark. step settings.depth mark reading) start all (moved_marks (length bytes) track.marks))
-            ∙ ap (λ (ms : List Mark). read settings.depth ms start) (sym grown);
-        names = t.names ++ of.names ∷ [];
-        named =
-            subst (λ (n : ℕ). AreNamed settings size (bytes ++ chunk) n told.standing.begun (t.names ++ of.names ∷ [])) (sym counted)
-            (named_more settings size bytes chunk c.blocks.chunks c.standing.begun told.standing.begun t.names of.names was.whole fits t.named own);
-        name_is = of.name_is;
-        blocks = fills t.names of.names t.blocks of.hashes_are;
-      }
+-- ---- the tables
 
-  pub one_read : AreRead settings size (bytes ++ chunk) new
-  one_read = record { settings_are = same_settings ∙ was.are.settings_are; start_is = same_start ∙ was.are.start_is; read_is = now; told = told_now }
+pub tables_made : (settings : Settings) (size : ℕ) (bytes : List ℕ) (n : ℕ) (c : NamedChunks) (tables : NameTables) → AreTold settings size bytes n c → IsCount size (length bytes) n
+    → ((names : List (List (List ℕ))) → AreBlocksOf names c.blocks → AreBlockTables names tables) → HasTables settings size bytes tables
+tables_made settings size bytes n c tables t counted made =
+    let m = made t.names t.blocks in
+    let long : length t.names ≡ n = sym t.blocks.chunks ∙ t.counted in
+    record {
+      are = record { count = n; counted = counted; begun = c.standing.begun; names = t.names; named = t.named; each = m.each };
+      blocks = subst (λ (i : ℕ). IsCount 64 i (length tables.tables.items)) long m.counted;
+    }
 
-pub whole_more : (settings : Settings) (size : ℕ) (bytes chunk : List ℕ) (c new : NamedChunks) → AreWhole settings size bytes c → length chunk ≡ size → new.blocks.chunks ≡ suc c.blocks.chunks
-    → AreRead settings size (bytes ++ chunk) new → AreWhole settings size (bytes ++ chunk) new
-whole_more settings size bytes chunk c new was full long are = record {
-  are = are;
-  whole =
-      let e : length (bytes ++ chunk) ≡ length bytes + length chunk = length-append bytes chunk in
-      let w = was.whole in
-      let m : suc c.blocks.chunks * size ≡ c.blocks.chunks * size + size = suc-mul c.blocks.chunks size in
-      let now : length (bytes ++ chunk) ≡ suc c.blocks.chunks * size = omega (arith, e, w, m, full) in
-      now ∙ ap (λ (n : ℕ). n * size) (sym long);
-}
+pub names_made : (has_names : Bool) (settings : Settings) (size : ℕ) (bytes : List ℕ) (n : ℕ) (held : Option NamedChunks) (c : NamedChunks) (tables : NameTables) → held ≡ Some c
+    → AreNames has_names settings size bytes n held → IsCount size (length bytes) n → ((names : List (List (List ℕ))) → AreBlocksOf names c.blocks → AreBlockTables names tables)
+    → HasNames has_names settings size bytes (Some tables)
+names_made true settings size bytes n held c tables is told counted made = tables_made settings size bytes n c tables (subst (λ (o : Option NamedChunks). AreNames true settings size bytes n o) is told) counted made
+names_made false settings size bytes n held c tables is told counted made = subst (λ (o : Option NamedChunks). AreNames false settings size bytes n o) is told
+
+pub none_made : (has_names : Bool) (settings : Settings) (size : ℕ) (bytes : List ℕ) (n : ℕ) (held : Option NamedChunks) → held ≡ None
+    → AreNames has_names settings size bytes n held → HasNames has_names settings size bytes None
+none_made true settings size bytes n held is told = subst (λ (o : Option NamedChunks). AreNames true settings size bytes n o) is told
+none_made false settings size bytes n held is told = tt

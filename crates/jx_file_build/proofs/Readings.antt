@@ -1,42 +1,21 @@
 -- Chunks that are read one behind another.
-use Rattle.std.proofs.Common.{◌≡◌, ℕ, zero, suc, ◌+◌, ◌-◌, ◌*◌, ◌≤◌, List, [], ◌∷◌, ◌++◌, length, take, drop, refl, sym, ◌∙◌, ap, subst, arith, Bool, true, false, Option, Some}
+use Rattle.std.proofs.Common.{◌≡◌, ℕ, zero, suc, ◌+◌, ◌-◌, ◌*◌, ◌≤◌, List, [], ◌∷◌, ◌++◌, length, take, drop, refl, sym, ◌∙◌, ap, subst, arith, Bool, false, Option, Some}
 use Rattle.std.proofs.lemmas.List.{drop-append-le, length-append, length-drop, take-append-le, take_all}
 use Rattle.std.proofs.Math.Nat.{suc-mul}
 use Rattle.std.proofs.Math.Seq.{drop-append_seam, take-append_seam}
-use Rattle.jx_reduce.specs.KnownStack.{Known}
-use Rattle.jx_run.specs.Front.{agreed}
 use Rattle.jx_run.specs.Reader.{Outcome, is_fault, read_by}
 use Rattle.jx_run.specs.ReaderInside.{IsReadTo, outcome_at}
-use Rattle.jx_run.specs.Settings.{byte_order_mark}
-use Rattle.jx_run.specs.Telling.{track_in_front}
-use Rattle.jx_run.specs.declared.readers.progress.Progress.{Progress}
 use Rattle.jx_run.specs.declared.texts.settings.Settings.{Settings}
 use Rattle.jx_run.proofs.InTurn.{faults_stay}
-use Rattle.jx_run.proofs.ReaderFeeds.{passed}
-use Rattle.jx_run.proofs.Tellings.{none_grows}
 use Rattle.jx_file_index.specs.declared.entry.Entry.{Entry}
-use Rattle.jx_file_index.specs.declared.sum.Sum.{Sum}
 use Rattle.jx_file_index.specs.Chunks.{before, entries_of, entry_behind, part}
 use Rattle.jx_file_build.specs.Held.{AreWhole, HeldValue, IsEntered}
-use Rattle.jx_file_build.specs.inside.Tallied.{Tells}
-
--- behind a fault no byte changes anything
-pub stays_read : (settings : Settings) (start : ℕ) (bytes more : List ℕ) (p q : Progress) (k l : Known) → q ≡ p → l ≡ k → is_fault (outcome_at p k.reading) ≡ true
-    → IsReadTo settings start bytes p k → IsReadTo settings start (bytes ++ more) q l
-stays_read settings start bytes more p q k l same same_stack fault h =
-    subst (λ (x : Progress). IsReadTo settings start (bytes ++ more) x l) (sym same)
-    (subst (λ (x : Known). IsReadTo settings start (bytes ++ more) p x) (sym same_stack)
-    (record { outcome = passed settings start bytes more (outcome_at p k.reading) fault h.outcome; of_use = h.of_use }))
-
--- a slice that does not end a byte order mark tells nothing
-pub none_told : (n count : ℕ) (slice : List ℕ) → count ≡ n + agreed slice (drop n byte_order_mark) → (count ≡ 3 → ⊥) → (count ≡ 0 → length slice ≡ 0) → (s : Sum) (b e : Bool) → Tells [] [] s b e
-    → Tells (track_in_front n (n + agreed slice (drop n byte_order_mark)) slice).marks (track_in_front n (n + agreed slice (drop n byte_order_mark)) slice).ends s b e
-none_told n count slice counted other empty s b e h = none_grows n count slice counted (λ ms es. Tells ms es s b e) other empty [] [] h
+use Rattle.jx_file_build.specs.inside.NamedChunks.{AreNames, AreNamesAt}
 
 -- ---- the entries of a text that grows
 
 -- whole parts stay
-part_stays : (size : ℕ) (xs more : List ℕ) (n : ℕ) → n * size + size ≤ length xs → part size (xs ++ more) n ≡ part size xs n
+pub part_stays : (size : ℕ) (xs more : List ℕ) (n : ℕ) → n * size + size ≤ length xs → part size (xs ++ more) n ≡ part size xs n
 part_stays size xs more n fits =
     ap (take size) (drop-append-le (n * size) xs more (omega (arith, fits)))
     ∙ take-append-le size (drop (n * size) xs) more (let e : length (drop (n * size) xs) ≡ length xs - n * size = length-drop (n * size) xs in omega (arith, e, fits))
@@ -64,13 +43,15 @@ entries_more settings size xs chunk n whole fits =
 -- ---- chunk by chunk
 
 -- what no byte has
-pub none_entered : (settings : Settings) (size : ℕ) (h : HeldValue) → IsReadTo settings 0 [] h.progress h.stack → h.count ≡ 0 → h.entries ≡ [] → AreWhole settings size [] h
+pub none_entered : (has_names : Bool) (settings : Settings) (size : ℕ) (h : HeldValue) → IsReadTo settings 0 [] h.progress h.stack → h.count ≡ 0 → h.entries ≡ []
+    → AreNames has_names settings size [] 0 h.names → AreWhole has_names settings size [] h
 unfolding entries_of
-none_entered settings size h read count none = record {
+none_entered has_names settings size h read count none names = record {
   entered = record {
     read = read;
     count = count;
     entries = λ going. none ∙ ap (λ (n : ℕ). entries_of settings size [] n) (sym (ap (λ (es : List Entry). length es) none));
+    names = λ going. subst (λ (n : ℕ). AreNames has_names settings size [] n h.names) (sym (ap (λ (es : List Entry). length es) none)) names;
   };
   whole =
       let z : length h.entries * size ≡ 0 * size = ap (λ (es : List Entry). length es * size) none in
@@ -78,11 +59,12 @@ none_entered settings size h read count none = record {
 }
 
 -- one chunk more
-pub one_entered : (settings : Settings) (size : ℕ) (bytes chunk : List ℕ) (h new : HeldValue) (entry : Entry) → AreWhole settings size bytes h → length chunk ≤ size
+pub one_entered : (has_names : Bool) (settings : Settings) (size : ℕ) (bytes chunk : List ℕ) (h new : HeldValue) (entry : Entry) → AreWhole has_names settings size bytes h → length chunk ≤ size
     → IsReadTo settings 0 (bytes ++ chunk) new.progress new.stack → new.count ≡ h.count + length chunk → new.entries ≡ h.entries ++ entry ∷ []
     → (is_fault (outcome_at new.progress new.stack.reading) ≡ false → (came : Outcome) → outcome_at h.progress h.stack.reading ≡ Some came → entry ≡ entry_behind came chunk)
-    → IsEntered settings size (bytes ++ chunk) new
-one_entered settings size bytes chunk h new entry was fits read count pushed is = record {
+    → AreNamesAt has_names settings size (bytes ++ chunk) (suc (length h.entries)) new.progress new.stack new.names
+    → IsEntered has_names settings size (bytes ++ chunk) new
+one_entered has_names settings size bytes chunk h new entry was fits read count pushed is names = record {
   read = read;
   count = count ∙ ap (λ (n : ℕ). n + length chunk) was.entered.count ∙ sym (length-append bytes chunk);
   entries = λ going.
@@ -90,17 +72,20 @@ one_entered settings size bytes chunk h new entry was fits read count pushed is 
       let now : is_fault (Some (read_by settings.mark settings.depth 0 (bytes ++ chunk))) ≡ false = subst (λ (o : Option Outcome). is_fault o ≡ false) read.outcome going in
       let then : is_fault (outcome_at h.progress h.stack.reading) ≡ false = subst (λ (o : Option Outcome). is_fault o ≡ false) (sym before_is) (faults_stay settings.mark settings.depth bytes chunk now) in
       let old : h.entries ≡ entries_of settings size bytes (length h.entries) = was.entered.entries then in
-      let long : length new.entries ≡ suc (length h.entries) = ap (λ (es : List Entry). length es) pushed ∙ length-append h.entries (entry ∷ []) ∙ (let e : length h.entries + 1 ≡ suc (length h.entries) = omega arith in e) in
       pushed
       ∙ ap (λ (es : List Entry). es ++ entry ∷ []) old
       ∙ ap (λ (e : Entry). entries_of settings size bytes (length h.entries) ++ e ∷ []) (is going (read_by settings.mark settings.depth 0 bytes) before_is)
       ∙ sym (entries_more settings size bytes chunk (length h.entries) was.whole fits)
       ∙ ap (λ (n : ℕ). entries_of settings size (bytes ++ chunk) n) (sym long);
+  names = λ going. subst (λ (n : ℕ). AreNames has_names settings size (bytes ++ chunk) n new.names) (sym long) (names going);
 }
+  where
+    long : length new.entries ≡ suc (length h.entries)
+    long = ap (λ (es : List Entry). length es) pushed ∙ length-append h.entries (entry ∷ []) ∙ (let e : length h.entries + 1 ≡ suc (length h.entries) = omega arith in e)
 
-pub whole_more : (settings : Settings) (size : ℕ) (bytes chunk : List ℕ) (h new : HeldValue) → AreWhole settings size bytes h → length chunk ≡ size → length new.entries ≡ suc (length h.entries)
-    → IsEntered settings size (bytes ++ chunk) new → AreWhole settings size (bytes ++ chunk) new
-whole_more settings size bytes chunk h new was full long entered = record {
+pub whole_more : (has_names : Bool) (settings : Settings) (size : ℕ) (bytes chunk : List ℕ) (h new : HeldValue) → AreWhole has_names settings size bytes h → length chunk ≡ size → length new.entries ≡ suc (length h.entries)
+    → IsEntered has_names settings size (bytes ++ chunk) new → AreWhole has_names settings size (bytes ++ chunk) new
+whole_more has_names settings size bytes chunk h new was full long entered = record {
   entered = entered;
   whole =
       let e : length (bytes ++ chunk) ≡ length bytes + length chunk = length-append bytes chunk in

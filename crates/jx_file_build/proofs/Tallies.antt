@@ -1,20 +1,25 @@
 -- What is tallied, token by token.
-use Rattle.std.proofs.Common.{◌≡◌, ℕ, List, [], ◌∷◌, ◌++◌, length, refl, sym, ◌∙◌, ap, subst, Bool, true, false, Some}
+use Rattle.std.proofs.Common.{◌≡◌, ℕ, List, [], ◌∷◌, ◌++◌, length, refl, sym, ◌∙◌, ap, subst, append_assoc, Option, Bool, true, None, Some}
+use Rattle.std.specs.Prelude.{IfSome}
 use Rattle.std.proofs.lemmas.List.Sums.{fold-append}
+use Rattle.jx_lex.specs.declared.alphabet.lex_exit.LexExit.{LexExit}
+use Rattle.jx_lex.specs.declared.alphabet.lex_exit.LexExit.TheVariants as exit
 use Rattle.jx_lex.specs.declared.alphabet.mark.Mark.{Mark}
 use Rattle.jx_lex.specs.declared.alphabet.mark.MarkKind.{MarkKind}
 use Rattle.jx_lex.specs.declared.alphabet.mark.MarkKind.TheVariants as kind
 use Rattle.jx_lex.specs.declared.alphabet.state.LexState.{LexState}
-use Rattle.jx_lex.specs.Seen.{Grows, WantsNoMore, has_end}
+use Rattle.jx_lex.specs.Seen.{Awaits, AwaitsAt, Grows, Seen, WantsNoMore, has_end}
+use Rattle.jx_lex.proofs.Keeping.{grows-then}
 use Rattle.jx_reduce.specs.declared.table.expect.Expect.{Expect}
 use Rattle.jx_reduce.specs.declared.table.whole.Whole.{Whole}
 use Rattle.jx_reduce.specs.declared.table.whole.Whole.TheVariants as whole
 use Rattle.jx_reduce.specs.KnownStack.{Known, IsFault}
 use Rattle.jx_reduce.specs.Read.{Reading, step, read as read_marks}
 use Rattle.jx_reduce.specs.Whole.{whole_of}
-use Rattle.jx_run.specs.Reader.{Outcome, reads}
+use Rattle.jx_run.specs.Reader.{Outcome, in_front, reads}
 use Rattle.jx_run.specs.ReaderInside.{outcome_at}
 use Rattle.jx_run.specs.Reading as text
+use Rattle.jx_run.specs.Telling.{AwaitsBehind}
 use Rattle.jx_run.specs.declared.readers.progress.Progress.{Progress}
 use Rattle.jx_run.specs.declared.readers.progress.Progress.TheVariants.{Going}
 use Rattle.jx_run.proofs.BothSeen.{no_fault_before}
@@ -60,55 +65,89 @@ token_stays kind.Comma s h = absurd cc
 pub tells_token : (s : Sum) (b n : Bool) (m : Mark) (at : ℕ) → has_end m.kind ≡ true → Grows (λ ms es. Tells ms es s b n) (λ ms es. Tells ms es s true true) (m ∷ []) (at ∷ [])
 tells_token s b n m at token = λ ms es t. tells_end (ms ++ m ∷ []) es s true n (tells_mark ms es s b n t m s (token_stays m.kind s token)) at
 
--- ---- behind an earlier stack
+-- ---- behind an earlier stack, and what a sink had seen then
 
-pub tallied_new : (k : Known) → HasTallied k [] [] k nothing false false
-tallied_new k = record { depth = refl; reading = refl; told = λ going. record { sum_is = refl; begins_is = refl; ends_is = refl } }
+module _ (old : Seen) (earlier : Known) where
+  pub tallied_new : (seen : Seen) → Grows old seen [] [] → HasTallied old earlier seen [] [] earlier
+  tallied_new seen grows = record { depth = refl; reading = refl; told = λ sound. grows }
 
-module _ (earlier : Known) (ms : List Mark) (es : List ℕ) (k : Known) (s : Sum) (b n : Bool) (h : HasTallied earlier ms es k s b n) where
-  pub tallied_mark : (m : Mark) (new : Known) (next : Sum) (begins ended : Bool) → new.depth ≡ k.depth → new.reading ≡ step k.depth m k.reading
-      → ((marks : List Mark) (ends : List ℕ) → Tells marks ends s b n → Tells (marks ++ m ∷ []) ends next begins ended)
-      → HasTallied earlier (ms ++ m ∷ []) es new next begins ended
-  tallied_mark m new next begins ended deep steps tells = record {
-    depth = deep ∙ h.depth;
-    reading =
-        steps ∙ ap (λ (d : ℕ). step d m k.reading) h.depth ∙ ap (step earlier.depth m) h.reading
-        ∙ sym (read_more earlier.depth ms (m ∷ []) earlier.reading);
-    told = λ sound. tells ms es (h.told (no_fault_before k.depth m k.reading (λ f. sound (subst IsFault (sym steps) f))));
-  }
+  module _ (before : Seen) (ms : List Mark) (es : List ℕ) (k : Known) (h : HasTallied old earlier before ms es k) where
+    pub tallied_mark : (m : Mark) (new : Known) (after : Seen) → new.depth ≡ k.depth → new.reading ≡ step k.depth m k.reading
+        → ((marks : List Mark) (ends : List ℕ) → before marks ends → after (marks ++ m ∷ []) ends)
+        → HasTallied old earlier after (ms ++ m ∷ []) es new
+    tallied_mark m new after deep steps goes = record {
+      depth = deep ∙ h.depth;
+      reading =
+          steps ∙ ap (λ (d : ℕ). step d m k.reading) h.depth ∙ ap (step earlier.depth m) h.reading
+          ∙ sym (read_more earlier.depth ms (m ∷ []) earlier.reading);
+      told = λ sound xs ys b.
+          subst (λ (zs : List Mark). after zs (ys ++ es)) (append_assoc xs ms (m ∷ []))
+          (goes (xs ++ ms) (ys ++ es) (h.told (no_fault_before k.depth m k.reading (λ f. sound (subst IsFault (sym steps) f))) xs ys b));
+    }
 
-  pub tallied_end : (at : ℕ) (next : Sum) (begins ended : Bool) → ((marks : List Mark) (ends : List ℕ) → Tells marks ends s b n → Tells marks (ends ++ at ∷ []) next begins ended)
-      → HasTallied earlier ms (es ++ at ∷ []) k next begins ended
-  tallied_end at next begins ended tells = record { depth = h.depth; reading = h.reading; told = λ sound. tells ms es (h.told sound) }
+    pub tallied_end : (at : ℕ) (after : Seen) → ((marks : List Mark) (ends : List ℕ) → before marks ends → after marks (ends ++ at ∷ [])) → HasTallied old earlier after ms (es ++ at ∷ []) k
+    tallied_end at after goes = record {
+      depth = h.depth;
+      reading = h.reading;
+      told = λ sound xs ys b. subst (λ (zs : List ℕ). after (xs ++ ms) zs) (append_assoc ys es (at ∷ [])) (goes (xs ++ ms) (ys ++ es) (h.told sound xs ys b));
+    }
 
-  -- whole tokens that are passed at once
-  pub tallied_pass : (more : List Mark) (others : List ℕ) (new : Known) (next : Sum) (begins ended : Bool) → new.depth ≡ k.depth → new.reading ≡ read_marks k.depth more k.reading
-      → Grows (λ marks ends. Tells marks ends s b n) (λ marks ends. Tells marks ends next begins ended) more others
-      → HasTallied earlier (ms ++ more) (es ++ others) new next begins ended
-  tallied_pass more others new next begins ended deep comes grows = record {
-    depth = deep ∙ h.depth;
-    reading =
-        comes ∙ ap (λ (d : ℕ). read_marks d more k.reading) h.depth ∙ ap (read_marks earlier.depth more) h.reading
-        ∙ sym (read_more earlier.depth ms more earlier.reading);
-    told = λ sound. grows ms es (h.told (λ f. sound (subst IsFault (sym comes) (subst IsFault (sym (read-fault k.depth more k.reading f)) f))));
-  }
+    -- whole tokens that are passed at once
+    pub tallied_pass : (more : List Mark) (others : List ℕ) (new : Known) (after : Seen) → new.depth ≡ k.depth → new.reading ≡ read_marks k.depth more k.reading → Grows before after more others
+        → HasTallied old earlier after (ms ++ more) (es ++ others) new
+    tallied_pass more others new after deep comes grows = record {
+      depth = deep ∙ h.depth;
+      reading =
+          comes ∙ ap (λ (d : ℕ). read_marks d more k.reading) h.depth ∙ ap (read_marks earlier.depth more) h.reading
+          ∙ sym (read_more earlier.depth ms more earlier.reading);
+      told = λ sound.
+          grows-then old before after ms more es others (h.told (λ f. sound (subst IsFault (sym comes) (subst IsFault (sym (read-fault k.depth more k.reading f)) f)))) grows;
+    }
 
-  -- behind a fault
-  pub tallied_over : IsFault k.reading → (more : List Mark) (others : List ℕ) → HasTallied earlier (ms ++ more) (es ++ others) k s b n
-  tallied_over fault more others = record {
-    depth = h.depth;
-    reading =
-        h.reading ∙ sym (read-fault earlier.depth more (read_marks earlier.depth ms earlier.reading) (subst IsFault h.reading fault))
-        ∙ sym (read_more earlier.depth ms more earlier.reading);
-    told = λ sound. absurd (sound fault);
-  }
+    -- behind a fault
+    pub tallied_over : IsFault k.reading → (more : List Mark) (others : List ℕ) → HasTallied old earlier before (ms ++ more) (es ++ others) k
+    tallied_over fault more others = record {
+      depth = h.depth;
+      reading =
+          h.reading ∙ sym (read-fault earlier.depth more (read_marks earlier.depth ms earlier.reading) (subst IsFault h.reading fault))
+          ∙ sym (read_more earlier.depth ms more earlier.reading);
+      told = λ sound. absurd (sound fault);
+    }
 
-  -- who wants no more has met a fault
-  pub tallied_done : WantsNoMore (λ marks ends. HasTallied earlier marks ends k s b n) → IsFault k.reading
-  tallied_done done =
-      let two : List Mark = record { kind = kind.Colon; at = 0 } ∷ record { kind = kind.Colon; at = 0 } ∷ [] in
-      let more : HasTallied earlier (ms ++ two) (es ++ []) k s b n = done ms two es [] h in
-      stuck earlier.depth 0 0 k.reading (more.reading ∙ read_more earlier.depth ms two earlier.reading ∙ ap (read_marks earlier.depth two) (sym h.reading))
+    -- who wants no more has met a fault
+    pub tallied_done : WantsNoMore (λ marks ends. HasTallied old earlier before marks ends k) → IsFault k.reading
+    tallied_done done =
+        let two : List Mark = record { kind = kind.Colon; at = 0 } ∷ record { kind = kind.Colon; at = 0 } ∷ [] in
+        let more : HasTallied old earlier before (ms ++ two) (es ++ []) k = done ms two es [] h in
+        stuck earlier.depth 0 0 k.reading (more.reading ∙ read_more earlier.depth ms two earlier.reading ∙ ap (read_marks earlier.depth two) (sym h.reading))
+
+-- ---- what sinks await
+
+-- whether a fault was met or not
+pub whatever_awaits : (awaits : Awaits) (r : Reading) (x : Option LexExit) → IfSome x (AwaitsAt awaits) → IfSome x (AwaitsAt (λ inside. (IsFault r → ⊥) → awaits inside))
+whatever_awaits awaits r None turn = turn
+whatever_awaits awaits r (Some (exit.State s)) turn = λ going. turn
+whatever_awaits awaits r (Some (exit.Fault at)) turn = turn
+
+-- a sink that takes token starts and ends in any order
+pub nothing_awaited : (came : Outcome) → AwaitsBehind (λ inside. Unit {0}) came
+nothing_awaited (in_front n) = tt
+nothing_awaited (reads (text.went s e o)) = tt
+nothing_awaited (reads (text.stopped at)) = tt
+nothing_awaited (reads (text.too_deep at)) = tt
+
+-- a sink beside one that does
+pub both_await : (other : Awaits) (came : Outcome) → AwaitsBehind other came → AwaitsBehind (λ inside. Unit {0} × other inside) came
+both_await other (in_front n) turn = (tt, turn)
+both_await other (reads (text.went s e o)) turn = (tt, turn)
+both_await other (reads (text.stopped at)) turn = turn
+both_await other (reads (text.too_deep at)) turn = turn
+
+pub other_awaits : (other : Awaits) (came : Outcome) → AwaitsBehind (λ inside. Unit {0} × other inside) came → AwaitsBehind other came
+other_awaits other (in_front n) turn = turn.1
+other_awaits other (reads (text.went s e o)) turn = turn.1
+other_awaits other (reads (text.stopped at)) turn = turn
+other_awaits other (reads (text.too_deep at)) turn = turn
 
 -- ---- between two chunks
 

@@ -1,5 +1,4 @@
-pub mod FedNames
 pub mod Held
 pub mod Indexer
 pub mod inside
-pub mod NamesIfAsked
+pub mod TextTables

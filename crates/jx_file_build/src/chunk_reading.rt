@@ -1,176 +1,28 @@
-// A chunk that is read after all bytes before it, with the outcome of its tokens.
-ghost use Rattle.std.specs.Prelude.{◌≡◌, ◌+◌, ◌<◌, ◌≤◌, ◌^◌, ◌++◌, [], ℕ, List, Some, drop, false, length, slice_range, IfOk};
-ghost use Rattle.jx_lex.specs.declared.alphabet.mark.Mark.{Mark};
-ghost use Rattle.jx_lex.specs.Lex.{lex};
-ghost use Rattle.jx_reduce.specs.KnownStack.{HasRead as StackHasRead, IsFault};
-ghost use Rattle.jx_reduce.specs.Read.{read as read_marks};
-ghost use Rattle.jx_run.specs.Front.{agreed};
+// A chunk that is read once after all bytes before it: its entry, and its names where these are asked for.
+ghost use Rattle.std.specs.Prelude.{◌≡◌, ◌+◌, ◌*◌, ◌<◌, ◌≤◌, ◌^◌, ◌++◌, ℕ, Bool, List, Some, suc, false, length, IfOk};
 ghost use Rattle.jx_run.specs.Reader.{Outcome, is_fault};
-ghost use Rattle.jx_run.specs.ReaderInside.{GoesOn, IsCut, IsOfUse, IsReadTo, outcome_at, settled};
-ghost use Rattle.jx_run.specs.Settings.{byte_order_mark};
-ghost use Rattle.jx_run.specs.Telling.{track_in_front, track_of};
+ghost use Rattle.jx_run.specs.ReaderInside.{IsCut, IsOfUse, IsReadTo, outcome_at};
+ghost use Rattle.jx_run.specs.Telling.{track_of};
 ghost use Rattle.jx_run.specs.declared.texts.settings.FrontMark.{FrontMark};
 ghost use Rattle.jx_run.specs.declared.texts.settings.Settings.{Settings};
+ghost use Rattle.jx_index.specs.inside.InTurn.{IsInTurn};
 ghost use Rattle.jx_file_index.specs.Chunks.{entry_behind, expect_behind, state_behind};
+ghost use Rattle.jx_file_build.specs.inside.ChunkNames.{IsTold};
+ghost use Rattle.jx_file_build.specs.inside.NamedChunks.{AreBegun, AreFit, AreNamesAt};
 ghost use Rattle.jx_file_build.specs.inside.Tallied.{Tells};
 
-use crate::tally::{Earlier, Tally};
-use jx_file_index::{Entry, Sum, digest_of};
-use jx_lex::{LexExit, LexState, scan};
+use crate::chunk_sum::ChunkSum;
+use crate::named_chunks::NamedChunks;
+use crate::on_chunk::{Before, OnChunk};
+use crate::sink_pair::SinkPair;
+use crate::standing::{Standing, ToldChunk};
+use crate::telling::{Told, tell_on};
+use jx_file_index::{Entry, digest_of};
+use jx_lex::LexState;
 use jx_reduce::{Expect, KnownStack, Whole};
-use jx_run::{Progress, reader_and_grammar};
-use std::alloc::AllocError;
+use jx_run::{Progress, slices_are_told_in_turn};
+use std::alloc::{AllocError, Global};
 use std::marker::Brand;
-
-/// U+FEFF in UTF-8.
-const BYTE_ORDER_MARK: [u8; 3] = [0xEF, 0xBB, 0xBF];
-
-/// How far a reading came after a slice, its stack, and what the slice's tokens led to.
-#[derive(Drop)]
-struct Told {
-    progress: Progress,
-    stack: KnownStack,
-    sum: Sum,
-    begins: bool,
-    ends: bool,
-}
-
-/// Where a scan over a slice that stands from `base` on has led.
-fn settled(base: usize, exit: Option<LexExit>, whole: Whole) -> Progress
-    ensures value { result ≡ settled base exit whole }
-    ensures cut { IsCut result }
-{
-    match whole {
-        Whole::Stopped(at) => Progress::Stopped(base.saturating_add(at)),
-        Whole::TooDeep(at) => Progress::TooDeep(base.saturating_add(at)),
-        Whole::Went { .. } => match exit {
-            Some(LexExit::State(state)) => Progress::Going(state),
-            Some(LexExit::Fault(at)) => Progress::Stopped(base.saturating_add(at)),
-            None => Progress::Failed,
-        },
-    }
-}
-
-/// With how many bytes of a byte order mark a text begins: with so many before this slice, and then with those of the slice.
-fn count_agreed(slice: &[u8], before: usize) -> usize
-    requires { before < 3 }
-    ensures bounds { (before ≤ result) × (result ≤ 3) }
-    ensures within { result ≤ before + length slice.now }
-    ensures counted { result ≡ before + agreed slice.now (drop before BYTE_ORDER_MARK) }
-{
-    for count in before..3 {
-        if slice.len() <= count - before {
-            return count;
-        }
-        if slice[count - before] != BYTE_ORDER_MARK[count] {
-            return count;
-        }
-    }
-    3
-}
-
-/// Reads a slice that stands from `base` on, from an offset in it to its end.
-fn tell_slice<E: Earlier>(
-    stack: KnownStack,
-    state: LexState,
-    slice: &[u8],
-    from: usize,
-    base: usize,
-) -> Result<Told, AllocError>
-    requires within { from ≤ length slice.now }
-    requires stack { stack ≡ E.stack }
-    requires going { IsFault stack.reading → ⊥ }
-    ensures cut { IfOk result (λ told. IsCut told.progress) }
-    ensures goes_on { IfOk result (λ told. (marks : List Mark) → StackHasRead marks stack
-        → GoesOn stack (lex state from (slice_range slice.now from (length slice.now))) (read_marks stack.depth (lex state from (slice_range slice.now from (length slice.now))).marks stack.reading) base told.progress told.stack) }
-    ensures told { IfOk result (λ told. is_fault (outcome_at told.progress told.stack.reading) ≡ false
-        → Tells (lex state from (slice_range slice.now from (length slice.now))).marks (lex state from (slice_range slice.now from (length slice.now))).ends told.sum told.begins told.ends) }
-{
-    let mut tally: Tally<E> = Tally::new(stack);
-    let exit = scan(&mut tally, state, slice, from, slice.len())?;
-    Ok(Told {
-        progress: settled(base, exit, tally.stack.whole()),
-        stack: tally.stack,
-        sum: tally.chunk.sink.sum,
-        begins: tally.chunk.sink.begins,
-        ends: tally.chunk.sink.ends,
-    })
-}
-
-/// Nothing was given.
-fn untold(progress: Progress, stack: KnownStack) -> Told
-    ensures progress { result.progress ≡ progress }
-    ensures stack { result.stack ≡ stack }
-    ensures told { Tells [] [] result.sum result.begins result.ends }
-{
-    Told {
-        progress,
-        stack,
-        sum: Sum::new(),
-        begins: false,
-        ends: false,
-    }
-}
-
-/// Reads a slice after so many bytes of a byte order mark.
-#[cold]
-fn tell_front(
-    stack: KnownStack,
-    before: usize,
-    slice: &[u8],
-    base: usize,
-) -> Result<Told, AllocError>
-    requires cut { before < 3 }
-    requires fits { base + length slice.now < 2 ^ 64 }
-    requires fresh { StackHasRead [] stack }
-    ensures cut { IfOk result (λ told. IsCut told.progress) }
-    ensures of_use { IfOk result (λ told. (mark : FrontMark) (depth : ℕ) → IsOfUse (Progress.Front before) mark depth stack → IsOfUse told.progress mark depth told.stack) }
-    ensures reads { IfOk result (λ told. (settings : Settings) (start : ℕ) (bytes : List ℕ) → base ≡ start + length bytes
-        → IsReadTo settings start bytes (Progress.Front before) stack → IsReadTo settings start (bytes ++ slice.now) told.progress told.stack) }
-    ensures told { IfOk result (λ told. is_fault (outcome_at told.progress told.stack.reading) ≡ false
-        → Tells (track_in_front before (before + agreed slice.now (drop before byte_order_mark)) slice.now).marks (track_in_front before (before + agreed slice.now (drop before byte_order_mark)) slice.now).ends told.sum told.begins told.ends) }
-{
-    reader_and_grammar();
-    let count = count_agreed(slice, before);
-    let more = count - before;
-    if count == 3 {
-        return tell_slice::<Brand>(stack, LexState::Gap, slice, more, base);
-    }
-    if more == slice.len() {
-        return Ok(untold(Progress::Front(count), stack));
-    }
-    if count == 0 {
-        return tell_slice::<Brand>(stack, LexState::Gap, slice, 0, base);
-    }
-    Ok(untold(Progress::Stopped(base + more), stack))
-}
-
-/// Reads a slice after all bytes that were read; it stands from `base` on. After a fault no byte is looked at.
-fn tell_on(
-    stack: KnownStack,
-    progress: Progress,
-    slice: &[u8],
-    base: usize,
-) -> Result<Told, AllocError>
-    requires cut { IsCut progress }
-    requires fits { base + length slice.now < 2 ^ 64 }
-    requires of_use { (mark : FrontMark) × (depth : ℕ) × IsOfUse progress mark depth stack }
-    ensures cut { IfOk result (λ told. IsCut told.progress) }
-    ensures of_use { IfOk result (λ told. (mark : FrontMark) (depth : ℕ) → IsOfUse progress mark depth stack → IsOfUse told.progress mark depth told.stack) }
-    ensures reads { IfOk result (λ told. (settings : Settings) (start : ℕ) (bytes : List ℕ) → base ≡ start + length bytes
-        → IsReadTo settings start bytes progress stack → IsReadTo settings start (bytes ++ slice.now) told.progress told.stack) }
-    ensures told { IfOk result (λ told. is_fault (outcome_at told.progress told.stack.reading) ≡ false → (before : Outcome) → outcome_at progress stack.reading ≡ Some before
-        → Tells (track_of before slice.now).marks (track_of before slice.now).ends told.sum told.begins told.ends) }
-{
-    reader_and_grammar();
-    match progress {
-        Progress::Front(before) => tell_front(stack, before, slice, base),
-        Progress::Going(state) => tell_slice::<Brand>(stack, state, slice, 0, base),
-        Progress::Stopped(_) => Ok(untold(progress, stack)),
-        Progress::TooDeep(_) => Ok(untold(progress, stack)),
-        Progress::Failed => Err(AllocError),
-    }
-}
 
 /// The lexical state after what was read, and what may stand next.
 fn standing(progress: Progress, stack: &KnownStack) -> (LexState, Expect)
@@ -182,43 +34,192 @@ fn standing(progress: Progress, stack: &KnownStack) -> (LexState, Expect)
     }
 }
 
-/// How far a reading came after a chunk, its stack, and the chunk's entry.
+/// Reads a chunk after all bytes that were read, and sums its tokens; it stands from `base` on.
+fn sum_chunk(
+    stack: KnownStack,
+    progress: Progress,
+    chunk: &[u8],
+    base: usize,
+) -> Result<Told<ChunkSum>, AllocError>
+    requires cut { IsCut progress }
+    requires fits { base + length chunk.now < 2 ^ 64 }
+    requires of_use { (mark : FrontMark) × (depth : ℕ) × IsOfUse progress mark depth stack }
+    ensures cut { IfOk result (λ told. IsCut told.progress) }
+    ensures of_use { IfOk result (λ told. (mark : FrontMark) (depth : ℕ) → IsOfUse progress mark depth stack → IsOfUse told.progress mark depth told.stack) }
+    ensures reads { IfOk result (λ told. (settings : Settings) (start : ℕ) (bytes : List ℕ) → base ≡ start + length bytes
+        → IsReadTo settings start bytes progress stack → IsReadTo settings start (bytes ++ chunk.now) told.progress told.stack) }
+    ensures sums { IfOk result (λ told. is_fault (outcome_at told.progress told.stack.reading) ≡ false → (before : Outcome) → outcome_at progress stack.reading ≡ Some before
+        → Tells (track_of before chunk.now).marks (track_of before chunk.now).ends told.sink.sum told.sink.begins told.sink.ends) }
+{
+    tell_on(stack, ChunkSum::new(), progress, chunk, base)
+}
+
+/// How far a reading came after a chunk, its stack, the sum of the chunk's tokens, and its names.
+#[derive(Drop)]
+struct NamedChunk {
+    progress: Progress,
+    stack: KnownStack,
+    sum: ChunkSum,
+    names: ToldChunk,
+}
+
+/// The same, and gathers its names.
+fn name_chunk<B: Before>(
+    alloc: Global,
+    stack: KnownStack,
+    progress: Progress,
+    standing: Standing,
+    chunk: &[u8],
+    base: usize,
+) -> Result<NamedChunk, AllocError>
+    requires cut { IsCut progress }
+    requires fits { base + length chunk.now < 2 ^ 64 }
+    requires of_use { (mark : FrontMark) × (depth : ℕ) × IsOfUse progress mark depth stack }
+    requires chunk { chunk.now ≡ B.start.chunk }
+    requires base { base ≡ B.start.base }
+    requires stack { standing.stack ≡ B.start.stack }
+    requires begun { standing.begun ≡ B.start.begun }
+    requires name { standing.name.items ≡ B.start.name }
+    requires turn { IsInTurn (outcome_at progress stack.reading) standing.begun }
+    ensures cut { IfOk result (λ told. IsCut told.progress) }
+    ensures of_use { IfOk result (λ told. (mark : FrontMark) (depth : ℕ) → IsOfUse progress mark depth stack → IsOfUse told.progress mark depth told.stack) }
+    ensures reads { IfOk result (λ told. (settings : Settings) (start : ℕ) (bytes : List ℕ) → base ≡ start + length bytes
+        → IsReadTo settings start bytes progress stack → IsReadTo settings start (bytes ++ chunk.now) told.progress told.stack) }
+    ensures sums { IfOk result (λ told. is_fault (outcome_at told.progress told.stack.reading) ≡ false → (before : Outcome) → outcome_at progress stack.reading ≡ Some before
+        → Tells (track_of before chunk.now).marks (track_of before chunk.now).ends told.sum.sum told.sum.begins told.sum.ends) }
+    ensures named { IfOk result (λ told. is_fault (outcome_at told.progress told.stack.reading) ≡ false → (before : Outcome) → outcome_at progress stack.reading ≡ Some before
+        → IsTold B.start (track_of before chunk.now).marks (track_of before chunk.now).ends told.names) }
+    ensures turn { IfOk result (λ told. IsInTurn (outcome_at told.progress told.stack.reading) told.names.standing.begun) }
+{
+    let pair: SinkPair<ChunkSum, OnChunk<'_, B>> = SinkPair {
+        one: ChunkSum::new(),
+        other: OnChunk::new(alloc, chunk, base, standing),
+    };
+    let told = tell_on(stack, pair, progress, chunk, base)?;
+    let SinkPair { one, other } = told.sink;
+    let names = other.into_told()?;
+    Ok(NamedChunk {
+        progress: told.progress,
+        stack: told.stack,
+        sum: one,
+        names,
+    })
+}
+
+/// How far a reading came after a chunk, its stack, the sum of the chunk's tokens, and the names so far.
+#[derive(Drop)]
+struct Summed {
+    progress: Progress,
+    stack: KnownStack,
+    sum: ChunkSum,
+    names: Option<NamedChunks>,
+}
+
+/// Reads a chunk after all bytes that were read, and its names where these are asked for.
+fn sum_and_name(
+    stack: KnownStack,
+    progress: Progress,
+    names: Option<NamedChunks>,
+    chunk: &[u8],
+    base: usize,
+) -> Result<Summed, AllocError>
+    requires cut { IsCut progress }
+    requires fits { base + length chunk.now < 2 ^ 64 }
+    requires of_use { (mark : FrontMark) × (depth : ℕ) × IsOfUse progress mark depth stack }
+    requires turn { AreBegun (outcome_at progress stack.reading) names }
+    ensures cut { IfOk result (λ read. IsCut read.progress) }
+    ensures of_use { IfOk result (λ read. (mark : FrontMark) (depth : ℕ) → IsOfUse progress mark depth stack → IsOfUse read.progress mark depth read.stack) }
+    ensures reads { IfOk result (λ read. (settings : Settings) (start : ℕ) (bytes : List ℕ) → base ≡ start + length bytes
+        → IsReadTo settings start bytes progress stack → IsReadTo settings start (bytes ++ chunk.now) read.progress read.stack) }
+    ensures sums { IfOk result (λ read. is_fault (outcome_at read.progress read.stack.reading) ≡ false → (before : Outcome) → outcome_at progress stack.reading ≡ Some before
+        → Tells (track_of before chunk.now).marks (track_of before chunk.now).ends read.sum.sum read.sum.begins read.sum.ends) }
+    ensures turn { IfOk result (λ read. AreBegun (outcome_at read.progress read.stack.reading) read.names) }
+    ensures room { IfOk result (λ read. AreFit names → AreFit read.names) }
+    ensures named { IfOk result (λ read. (has_names : Bool) (settings : Settings) (size : ℕ) (bytes : List ℕ) (n : ℕ) → base ≡ length bytes → length bytes ≡ n * size → length chunk.now ≤ size
+        → IsReadTo settings 0 bytes progress stack → AreNamesAt has_names settings size bytes n progress stack names
+        → AreNamesAt has_names settings size (bytes ++ chunk.now) (suc n) read.progress read.stack read.names) }
+{
+    slices_are_told_in_turn();
+    match names {
+        None => {
+            let told = sum_chunk(stack, progress, chunk, base)?;
+            Ok(Summed {
+                progress: told.progress,
+                stack: told.stack,
+                sum: told.sink,
+                names: None,
+            })
+        }
+        Some(names) => {
+            let NamedChunks {
+                alloc,
+                standing,
+                blocks,
+                most,
+            } = names;
+            let told = name_chunk::<Brand>(alloc, stack, progress, standing, chunk, base)?;
+            let blocks = blocks.add(alloc, &told.names.hashes, most)?;
+            Ok(Summed {
+                progress: told.progress,
+                stack: told.stack,
+                sum: told.sum,
+                names: Some(NamedChunks {
+                    alloc,
+                    standing: told.names.standing,
+                    blocks,
+                    most,
+                }),
+            })
+        }
+    }
+}
+
+/// How far a reading came after a chunk, its stack, the chunk's entry, and the names so far.
 #[derive(Drop)]
 pub(crate) struct ReadChunk {
     pub progress: Progress,
     pub stack: KnownStack,
     pub entry: Entry,
+    pub names: Option<NamedChunks>,
 }
 
 /// Reads a chunk after all bytes that were read; it stands from `base` on.
 pub(crate) fn read_chunk(
     stack: KnownStack,
     progress: Progress,
+    names: Option<NamedChunks>,
     chunk: &[u8],
     base: usize,
 ) -> Result<ReadChunk, AllocError>
     requires cut { IsCut progress }
     requires fits { base + length chunk.now < 2 ^ 64 }
     requires of_use { (mark : FrontMark) × (depth : ℕ) × IsOfUse progress mark depth stack }
+    requires turn { AreBegun (outcome_at progress stack.reading) names }
     ensures cut { IfOk result (λ read. IsCut read.progress) }
     ensures of_use { IfOk result (λ read. (mark : FrontMark) (depth : ℕ) → IsOfUse progress mark depth stack → IsOfUse read.progress mark depth read.stack) }
     ensures reads { IfOk result (λ read. (settings : Settings) (start : ℕ) (bytes : List ℕ) → base ≡ start + length bytes
         → IsReadTo settings start bytes progress stack → IsReadTo settings start (bytes ++ chunk.now) read.progress read.stack) }
     ensures entry { IfOk result (λ read. is_fault (outcome_at read.progress read.stack.reading) ≡ false → (before : Outcome) → outcome_at progress stack.reading ≡ Some before
         → read.entry ≡ entry_behind before chunk.now) }
+    ensures turn { IfOk result (λ read. AreBegun (outcome_at read.progress read.stack.reading) read.names) }
+    ensures room { IfOk result (λ read. AreFit names → AreFit read.names) }
+    ensures named { IfOk result (λ read. (has_names : Bool) (settings : Settings) (size : ℕ) (bytes : List ℕ) (n : ℕ) → base ≡ length bytes → length bytes ≡ n * size → length chunk.now ≤ size
+        → IsReadTo settings 0 bytes progress stack → AreNamesAt has_names settings size bytes n progress stack names
+        → AreNamesAt has_names settings size (bytes ++ chunk.now) (suc n) read.progress read.stack read.names) }
 {
     let (state, expect) = standing(progress, &stack);
-    let told = tell_on(stack, progress, chunk, base)?;
+    let read = sum_and_name(stack, progress, names, chunk, base)?;
     Ok(ReadChunk {
-        progress: told.progress,
-        stack: told.stack,
+        progress: read.progress,
+        stack: read.stack,
         entry: Entry {
             state,
             expect,
-            sum: told.sum,
-            begins: told.begins,
-            ends: told.ends,
+            sum: read.sum.sum,
+            begins: read.sum.begins,
+            ends: read.sum.ends,
             digest: digest_of(chunk),
         },
+        names: read.names,
     })
 }

@@ -1,21 +1,25 @@
-// An index of a text that is fed by slices.
-ghost use Rattle.std.specs.Prelude.{◌≡◌, ◌<◌, ◌≤◌, ◌++◌, [], ℕ, List, length, take, IfOk, IfErr, IfNone, IfSome, IsErr, OnOk, OnErr};
+// An index of a text that is fed by slices, and the tables of its names where these are asked for.
+ghost use Rattle.std.specs.Prelude.{◌≡◌, ◌<◌, ◌≤◌, ◌++◌, [], ℕ, Bool, List, length, take, IfOk, IfErr, IfNone, IfSome, IsErr, OnOk, OnErr};
 ghost use Rattle.jx_run.specs.Settings.{JudgedBy};
 ghost use Rattle.jx_run.specs.declared.texts.settings.NameRule.TheVariants.{Any};
 ghost use Rattle.jx_run.specs.declared.texts.settings.Settings.{Settings};
 ghost use Rattle.jx_run.specs.declared.texts.verdict.Verdict.TheVariants.{Accepted, Refused};
 ghost use Rattle.jx_file_index.specs.Index.{IsIndexOf};
+ghost use Rattle.jx_file_index.specs.SavedTexts.{HasTablesToo};
+ghost use Rattle.jx_file_build.specs.TextTables.{HasNames};
 ghost use Rattle.jx_file_build.specs.Indexer.{HasFed, IsLost};
 ghost use Rattle.jx_file_build.specs.Held.{AreAll, AreHeld};
 
 use crate::held::Held;
+use crate::named_chunks::tables_of;
 use crate::part_filling::fill;
-use jx_file_index::{ChunkSize, Index, levels_of};
+use jx_file_index::{ChunkSize, Index, SavedText, levels_of};
 use jx_run::{Refusal, Settings, Verdict, reader_and_grammar, unique_verdict_by_settings};
 use std::alloc::{AllocError, Global};
 
-/// An index of a JSON text (RFC 8259) that is fed by slices of any length. It keeps the entries of the chunks that were
-/// read, and of the text less than one chunk.
+/// An index of a JSON text (RFC 8259) that is fed by slices of any length, and the tables of its names where these are asked
+/// for. It keeps the entries of the chunks that were read, and of the text less than one chunk. For tables it keeps those of
+/// the blocks that were read, the names of one block, and the bytes of a name that has begun and not ended.
 #[derive(Drop)]
 pub struct Indexer {
     alloc: Global,
@@ -40,8 +44,8 @@ fn begin(held: Held, part: &mut Vec<u8>, slice: &[u8], size: usize) -> Result<Be
     requires some { 0 < size }
     ensures within { IfOk result (λ begun. begun.len ≤ length slice.now) }
     ensures all { IfOk result (λ begun. 0 < length part.new.items → begun.len ≡ length slice.now) }
-    ensures held { IfOk result (λ begun. (settings : Settings) (bytes : List ℕ) → AreHeld settings size bytes held part.old.items
-        → AreHeld settings size (bytes ++ take begun.len slice.now) begun.held part.new.items) }
+    ensures held { IfOk result (λ begun. (has_names : Bool) (settings : Settings) (bytes : List ℕ) → AreHeld has_names settings size bytes held part.old.items
+        → AreHeld has_names settings size (bytes ++ take begun.len slice.now) begun.held part.new.items) }
 {
     if part.is_empty() {
         return Ok(Begun { held, len: 0 });
@@ -58,8 +62,8 @@ fn begin(held: Held, part: &mut Vec<u8>, slice: &[u8], size: usize) -> Result<Be
 /// Reads a slice after all bytes that were fed.
 fn feed_held(held: Held, part: &mut Vec<u8>, slice: &[u8], size: usize) -> Result<Held, AllocError>
     requires some { 0 < size }
-    ensures { IfOk result (λ next. (settings : Settings) (bytes : List ℕ) → AreHeld settings size bytes held part.old.items
-        → AreHeld settings size (bytes ++ slice.now) next part.new.items) }
+    ensures { IfOk result (λ next. (has_names : Bool) (settings : Settings) (bytes : List ℕ) → AreHeld has_names settings size bytes held part.old.items
+        → AreHeld has_names settings size (bytes ++ slice.now) next part.new.items) }
 {
     let begun = begin(held, part, slice, size)?;
     let rest = &slice[begun.len..slice.len()];
@@ -70,7 +74,7 @@ fn feed_held(held: Held, part: &mut Vec<u8>, slice: &[u8], size: usize) -> Resul
 
 /// Reads the last chunk, where the part that is kept has a byte.
 fn all_of(held: Held, part: &[u8]) -> Result<Held, AllocError>
-    ensures { IfOk result (λ all. (settings : Settings) (size : ℕ) (bytes : List ℕ) → AreHeld settings size bytes held part.now → AreAll settings size bytes all) }
+    ensures { IfOk result (λ all. (has_names : Bool) (settings : Settings) (size : ℕ) (bytes : List ℕ) → AreHeld has_names settings size bytes held part.now → AreAll has_names settings size bytes all) }
 {
     if part.is_empty() {
         return Ok(held);
@@ -79,29 +83,41 @@ fn all_of(held: Held, part: &[u8]) -> Result<Held, AllocError>
     Ok(all)
 }
 
-/// The index of an accepted text, of the entries of all its chunks. There is none where it has no chunk.
-fn index_of(
+/// What is saved of an accepted text, of what is kept of all its chunks. There is nothing where it has no chunk.
+fn saved_of(
     alloc: Global,
     settings: &Settings,
     chunk: ChunkSize,
     held: Held,
-) -> Result<Option<Index>, AllocError>
-    ensures index { IfOk result (λ index. IfSome index (λ i. (bytes : List ℕ) → AreAll settings.now chunk bytes held → JudgedBy settings.now 0 bytes Accepted → IsIndexOf settings.now chunk bytes i)) }
-    ensures none { IfOk result (λ index. IfNone index ((size : ℕ) (bytes : List ℕ) → AreAll settings.now size bytes held → length bytes ≡ 0)) }
+) -> Result<Option<SavedText>, AllocError>
+    ensures index { IfOk result (λ saved. IfSome saved (λ s. (has_names : Bool) (bytes : List ℕ) → AreAll has_names settings.now chunk bytes held → JudgedBy settings.now 0 bytes Accepted
+        → IsIndexOf settings.now chunk bytes s.index)) }
+    ensures names { IfOk result (λ saved. IfSome saved (λ s. (has_names : Bool) (bytes : List ℕ) → AreAll has_names settings.now chunk bytes held → JudgedBy settings.now 0 bytes Accepted
+        → HasNames has_names settings.now chunk bytes s.names)) }
+    ensures savable { IfOk result (λ saved. IfSome saved (λ s. (has_names : Bool) (bytes : List ℕ) → AreAll has_names settings.now chunk bytes held → JudgedBy settings.now 0 bytes Accepted
+        → HasTablesToo s.index s.names)) }
+    ensures none { IfOk result (λ saved. IfNone saved ((has_names : Bool) (size : ℕ) (bytes : List ℕ) → AreAll has_names settings.now size bytes held → length bytes ≡ 0)) }
 {
     reader_and_grammar();
     unique_verdict_by_settings();
     let size = held.count();
-    let kept = levels_of(alloc, held.into_entries())?;
-    match kept {
+    let kept = held.into_kept();
+    let levels = levels_of(alloc, kept.entries)?;
+    match levels {
         None => Ok(None),
-        Some(levels) => Ok(Some(Index {
-            settings: *settings,
-            chunk,
-            size,
-            entries: levels.entries,
-            top: levels.top,
-        })),
+        Some(levels) => {
+            let names = tables_of(kept.names)?;
+            Ok(Some(SavedText {
+                index: Index {
+                    settings: *settings,
+                    chunk,
+                    size,
+                    entries: levels.entries,
+                    top: levels.top,
+                },
+                names,
+            }))
+        }
     }
 }
 
@@ -111,17 +127,19 @@ fn outcome_of(
     settings: &Settings,
     chunk: ChunkSize,
     held: Held,
-) -> Result<Result<Index, Refusal>, AllocError>
-    ensures index { IfOk result (λ read. IfOk read (λ index. (bytes : List ℕ) → AreAll settings.now chunk bytes held → IsIndexOf settings.now chunk bytes index)) }
-    ensures refused { IfOk result (λ read. IfErr read (λ refusal. (bytes : List ℕ) → AreAll settings.now chunk bytes held → JudgedBy settings.now 0 bytes (Refused refusal))) }
+) -> Result<Result<SavedText, Refusal>, AllocError>
+    ensures index { IfOk result (λ read. IfOk read (λ saved. (has_names : Bool) (bytes : List ℕ) → AreAll has_names settings.now chunk bytes held → IsIndexOf settings.now chunk bytes saved.index)) }
+    ensures names { IfOk result (λ read. IfOk read (λ saved. (has_names : Bool) (bytes : List ℕ) → AreAll has_names settings.now chunk bytes held → HasNames has_names settings.now chunk bytes saved.names)) }
+    ensures savable { IfOk result (λ read. IfOk read (λ saved. (has_names : Bool) (bytes : List ℕ) → AreAll has_names settings.now chunk bytes held → HasTablesToo saved.index saved.names)) }
+    ensures refused { IfOk result (λ read. IfErr read (λ refusal. (has_names : Bool) (bytes : List ℕ) → AreAll has_names settings.now chunk bytes held → JudgedBy settings.now 0 bytes (Refused refusal))) }
 {
     reader_and_grammar();
     match held.verdict() {
         Verdict::Refused(refusal) => Ok(Err(refusal)),
         Verdict::Accepted => {
-            let made = index_of(alloc, settings, chunk, held)?;
+            let made = saved_of(alloc, settings, chunk, held)?;
             match made {
-                Some(index) => Ok(Ok(index)),
+                Some(saved) => Ok(Ok(saved)),
                 None => Ok(Err(Refusal::Truncated)),
             }
         }
@@ -129,11 +147,11 @@ fn outcome_of(
 }
 
 impl Indexer {
-    /// An indexer that was fed no byte, for chunks of this size. The settings may ignore a byte order mark in front of the
-    /// text (section 8.1); objects may have any names. Nothing is allocated.
-    pub fn new(alloc: Global, settings: &Settings, chunk: ChunkSize) -> Indexer
+    /// An indexer that was fed no byte, for chunks of this size, with tables of names or without. The settings may ignore a
+    /// byte order mark in front of the text (section 8.1); objects may have any names. Nothing is allocated.
+    pub fn new(alloc: Global, settings: &Settings, chunk: ChunkSize, has_names: bool) -> Indexer
         requires any { settings.now.names ≡ Any }
-        ensures fed { HasFed settings.now chunk [] result }
+        ensures fed { HasFed has_names settings.now chunk [] result }
     {
         // Shows the proof that a chunk has a byte.
         let _ = chunk.bytes();
@@ -141,7 +159,7 @@ impl Indexer {
             alloc,
             settings: *settings,
             chunk,
-            held: Some(Held::new(alloc, settings)),
+            held: Some(Held::new(alloc, settings, chunk, has_names)),
             part: Vec::new(alloc),
         }
     }
@@ -149,7 +167,7 @@ impl Indexer {
     /// Reads the slice after all bytes that it was fed. After a fault no byte is looked at. Fails only when out of
     /// memory, and more than 2 ^ 64 - 1 bytes; from then on every slice is.
     pub fn feed(&mut self, slice: &[u8]) -> Result<(), AllocError>
-        ensures fed { OnOk result ((settings : Settings) (chunk : ℕ) (bytes : List ℕ) → HasFed settings chunk bytes self.old → HasFed settings chunk (bytes ++ slice.now) self.new) }
+        ensures fed { OnOk result ((has_names : Bool) (settings : Settings) (chunk : ℕ) (bytes : List ℕ) → HasFed has_names settings chunk bytes self.old → HasFed has_names settings chunk (bytes ++ slice.now) self.new) }
         ensures err { OnErr result (IsLost self.new) }
         ensures lost { IsLost self.old → IsErr result }
     {
@@ -161,12 +179,18 @@ impl Indexer {
         Ok(())
     }
 
-    /// The index of the text that all bytes fed to it make, or why they are not a text, whatever names their
-    /// objects have. `Err` when out of memory, now or before.
-    pub fn finish(self) -> Result<Result<Index, Refusal>, AllocError>
-        ensures index { IfOk result (λ read. IfOk read (λ index. (settings : Settings) (chunk : ℕ) (bytes : List ℕ) → HasFed settings chunk bytes self
-            → IsIndexOf settings chunk bytes index)) }
-        ensures refused { IfOk result (λ read. IfErr read (λ refusal. (settings : Settings) (chunk : ℕ) (bytes : List ℕ) → HasFed settings chunk bytes self
+    /// The index of the text that all bytes fed to it make, and its tables, or why they are not a text, whatever names their
+    /// objects have. A block with more names than four times the bytes of a chunk keeps none. `Err` when out of memory, now
+    /// or before.
+    pub fn finish(self) -> Result<Result<SavedText, Refusal>, AllocError>
+        ensures index { IfOk result (λ read. IfOk read (λ saved. (has_names : Bool) (settings : Settings) (chunk : ℕ) (bytes : List ℕ) → HasFed has_names settings chunk bytes self
+            → IsIndexOf settings chunk bytes saved.index)) }
+        ensures names { IfOk result (λ read. IfOk read (λ saved. (has_names : Bool) (settings : Settings) (chunk : ℕ) (bytes : List ℕ) → HasFed has_names settings chunk bytes self
+            → HasNames has_names settings chunk bytes saved.names)) }
+        // Beside the index the tables are saved so that all of them is read back.
+        ensures savable { IfOk result (λ read. IfOk read (λ saved. (has_names : Bool) (settings : Settings) (chunk : ℕ) (bytes : List ℕ) → HasFed has_names settings chunk bytes self
+            → HasTablesToo saved.index saved.names)) }
+        ensures refused { IfOk result (λ read. IfErr read (λ refusal. (has_names : Bool) (settings : Settings) (chunk : ℕ) (bytes : List ℕ) → HasFed has_names settings chunk bytes self
             → JudgedBy settings 0 bytes (Refused refusal))) }
         ensures lost { IsLost self → IsErr result }
     {

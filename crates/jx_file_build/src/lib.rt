@@ -3,16 +3,15 @@
 
 mod blocks;
 mod chunk_reading;
+mod chunk_sum;
 mod held;
 mod indexer;
 mod named_chunks;
-mod names_if_asked;
-mod names_maker;
 mod on_chunk;
 mod part_filling;
+mod sink_pair;
 mod standing;
 mod tally;
+mod telling;
 
 pub use indexer::Indexer;
-pub use names_if_asked::NamesIfAsked;
-pub use names_maker::NamesMaker;

@@ -1,16 +1,15 @@
-// The sum of the tokens of a chunk, beside the stack that knows all open containers.
-ghost use Rattle.std.specs.Prelude.{◌≡◌, [], false};
-ghost use Rattle.jx_file_build.specs.inside.Tallied.{HasTallied};
-
-use jx_file_index::Sum;
-use jx_lex::{Mark, TokenCounts, TokenSink};
+// The stack that knows all open containers, and a sink beside it.
+use jx_lex::{Mark, TokenSink};
 use jx_reduce::{KnownStack, Listener};
 use std::alloc::AllocError;
 use std::marker::{Brand, PhantomData};
 
-/// The known stack before a chunk. A call picks it.
+/// The tokens that a sink had seen before a chunk, and the known stack then. A call picks both.
 pub trait Earlier {
+    ghost use Rattle.jx_lex.specs.Seen.{Seen};
     ghost use Rattle.jx_reduce.specs.KnownStack.{Known};
+
+    ghost seen: { Seen };
 
     ghost stack: { Known };
 }
@@ -18,129 +17,36 @@ pub trait Earlier {
 impl Earlier for Brand {
     ghost use Rattle.jx_reduce.specs.KnownStack.{start};
 
+    ghost seen = { λ marks ends. Unit {0} };
+
     ghost stack = { record { depth = 0; reading = start } };
 }
 
-/// The sum of the token starts of a chunk, and whether there were token starts and ends.
+/// The known stack, and a sink that is given the same tokens. Where the stack meets a fault, the sink is of no more use.
 #[derive(Drop)]
-pub struct ChunkSum {
-    pub sum: Sum,
-    pub begins: bool,
-    pub ends: bool,
-}
-
-impl TokenSink for ChunkSum {
-    ghost use Rattle.jx_file_build.specs.inside.Tallied.{Tells};
-
-    ghost has_seen = { λ chunk marks ends. Tells marks ends chunk.sum chunk.begins chunk.ends };
-
-    ghost awaits = { λ _ _. Unit {0} };
-
-    #[inline(always)]
-    fn begin(&mut self, mark: Mark) -> Result<(), AllocError> {
-        let Some(sum) = self.sum.step(mark.kind) else {
-            return Err(AllocError);
-        };
-        self.sum = sum;
-        self.begins = true;
-        Ok(())
-    }
-
-    #[inline(always)]
-    fn end(&mut self, _at: usize) -> Result<(), AllocError> {
-        self.ends = true;
-        Ok(())
-    }
-
-    fn is_done(&self) -> bool {
-        false
-    }
-
-    #[inline(always)]
-    fn wants_counts(&self) -> bool {
-        true
-    }
-
-    // Without a comma there may be no token.
-    #[inline(always)]
-    fn takes_counts(&self, counts: &TokenCounts) -> bool {
-        counts.commas != 0 && self.sum.counted(counts).is_some()
-    }
-
-    #[inline(always)]
-    fn counted(&mut self, counts: &TokenCounts) -> Result<(), AllocError> {
-        if counts.commas == 0 {
-            return Err(AllocError);
-        }
-        let Some(sum) = self.sum.counted(counts) else {
-            return Err(AllocError);
-        };
-        self.sum = sum;
-        self.begins = true;
-        let values = counts.strings as u64 + counts.scalars as u64;
-        if values == 0 {
-            return Ok(());
-        }
-        self.ends = true;
-        Ok(())
-    }
-
-    // No string, number or literal changes the sum.
-    #[inline(always)]
-    fn token(&mut self, _mark: Mark, _to: usize) -> Result<(), AllocError> {
-        self.begins = true;
-        self.ends = true;
-        Ok(())
-    }
-}
-
-/// The known stack, and the sum of the token starts after an earlier one.
-#[derive(Drop)]
-pub struct Tally<E> {
+pub struct Tally<K: Drop, E> {
     pub stack: KnownStack,
-    pub chunk: Listener<ChunkSum>,
-    earlier: PhantomData<E>,
+    pub other: Listener<K>,
+    pub earlier: PhantomData<E>,
 }
 
-impl<E: Earlier> Tally<E> {
-    /// After this stack no token start and no end was seen.
-    pub(crate) fn new(stack: KnownStack) -> Tally<E>
-        requires { stack ≡ E.stack }
-        ensures stack { result.stack ≡ stack }
-        ensures tallied { HasTallied E.stack [] [] result.stack result.chunk.sink.sum result.chunk.sink.begins result.chunk.sink.ends }
-    {
-        Tally {
-            stack,
-            chunk: Listener {
-                sink: ChunkSum {
-                    sum: Sum::new(),
-                    begins: false,
-                    ends: false,
-                },
-                has_failed: false,
-            },
-            earlier: PhantomData,
-        }
-    }
-}
-
-impl<E: Earlier> TokenSink for Tally<E> {
+impl<K: TokenSink + Drop, E: Earlier> TokenSink for Tally<K, E> {
     ghost use Rattle.jx_file_build.specs.inside.Tallied.{HasTallied};
 
-    ghost has_seen = { λ tally marks ends. HasTallied E.stack marks ends tally.stack tally.chunk.sink.sum tally.chunk.sink.begins tally.chunk.sink.ends };
+    ghost has_seen = { λ tally marks ends. HasTallied E.seen E.stack (K.has_seen tally.other.sink) marks ends tally.stack };
 
-    ghost awaits = { λ _ _. Unit {0} };
+    ghost awaits = { λ tally inside. K.awaits tally.other.sink inside };
 
     #[inline(always)]
     fn begin(&mut self, mark: Mark) -> Result<(), AllocError> {
         self.stack.push(mark)?;
-        self.chunk.sink.begin(mark)?;
+        self.other.sink.begin(mark)?;
         Ok(())
     }
 
     #[inline(always)]
     fn end(&mut self, at: usize) -> Result<(), AllocError> {
-        self.chunk.sink.end(at)?;
+        self.other.sink.end(at)?;
         Ok(())
     }
 
@@ -151,9 +57,9 @@ impl<E: Earlier> TokenSink for Tally<E> {
 
     #[inline(always)]
     fn pass(&mut self, text: &[u8], from: usize, to: usize) -> Result<usize, AllocError> {
-        self.chunk.has_failed = false;
-        let end = self.stack.pass_into(text, from, to, &mut self.chunk);
-        if self.chunk.has_failed {
+        self.other.has_failed = false;
+        let end = self.stack.pass_into(text, from, to, &mut self.other);
+        if self.other.has_failed {
             return Err(AllocError);
         }
         Ok(end)

@@ -26,13 +26,13 @@ pub(crate) fn told_by(
         names: NameRule::Any,
         ..*settings
     };
-    let mut indexer = Indexer::new(alloc, &any, chunk);
+    let mut indexer = Indexer::new(alloc, &any, chunk, false);
     for slice in slices {
         indexer.feed(*slice)?;
     }
     let mut out = Out::new(alloc);
     match indexer.finish()? {
-        Ok(index) => push_index(&mut out, alloc, &index)?,
+        Ok(saved) => push_index(&mut out, alloc, &saved.index)?,
         Err(refusal) => push_verdict(&mut out, Verdict::Refused(refusal)),
     }
     Ok(out)

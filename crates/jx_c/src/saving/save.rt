@@ -11,7 +11,6 @@ ghost use Rattle.jx_c.specs.declared.saving.saver.Saver.{Saver};
 ghost use Rattle.jx_c.specs.declared.saving.saver.Saver.TheVariants.{Saved};
 
 use crate::runs::put;
-use crate::saving::fed_text::FedText;
 use crate::saving::held_save::JxSave;
 use crate::saving::saver::Saver;
 use crate::shapes::settings::{JxSettings, settings_in};
@@ -21,6 +20,7 @@ use crate::shapes::status::{
 };
 use crate::shapes::unboxed::sent;
 use crate::shapes::verdict::{JxVerdict, shown};
+use jx_file_build::Indexer;
 use jx_file_index::ChunkSize;
 use jx_run::{NameRule, Settings, Verdict};
 use std::alloc::{AllocError, Global};
@@ -35,7 +35,7 @@ fn boxed(
     requires { settings.now.names ≡ Any }
     ensures { IfOk result (λ whole. HasRead has_names settings.now chunk [] whole.value) }
 {
-    let saver = Saver::Reading(FedText::new(alloc, settings, chunk, has_names));
+    let saver = Saver::Reading(Indexer::new(alloc, settings, chunk, has_names));
     Ok(Box::new(alloc, sent(saver))?)
 }
 

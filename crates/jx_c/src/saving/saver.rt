@@ -4,11 +4,12 @@ ghost use Rattle.std.specs.declared.alloc.Global.{Global};
 ghost use Rattle.jx_run.specs.declared.texts.settings.Settings.{Settings};
 ghost use Rattle.jx_run.specs.declared.texts.verdict.Verdict.TheVariants.{Accepted, Refused};
 ghost use Rattle.jx_run.specs.Settings.{JudgedBy};
-ghost use Rattle.jx_c.specs.Saves.{AreBytesOf, HasEnded, HasRead, IsEndedBy, IsFedText};
+ghost use Rattle.jx_file_build.specs.Indexer.{HasFed};
+ghost use Rattle.jx_c.specs.Saves.{AreBytesOf, HasEnded, HasRead, IsEndedBy};
 ghost use Rattle.jx_c.specs.declared.saving.saver.Saver.TheVariants.{Saved};
 
-use crate::saving::fed_text::FedText;
 use crate::shapes::status::{NO_MEMORY, NOT_BEGUN, OK};
+use jx_file_build::Indexer;
 use jx_run::{Refusal, Verdict};
 use std::alloc::{AllocError, Global};
 use std::mem::replace;
@@ -17,16 +18,16 @@ use std::mem::replace;
 #[derive(Drop)]
 pub enum Saver {
     /// It has not ended.
-    Reading(FedText),
+    Reading(Indexer),
     /// It has, and these are the bytes of its index.
     Saved(Vec<u8>),
 }
 
 /// The bytes of the index of all that was fed, and of the tables, or the refusal.
-fn bytes_of(alloc: Global, fed: FedText) -> Result<Result<Vec<u8>, Refusal>, AllocError>
-    ensures bytes { IfOk result (λ read. IfOk read (λ bytes. (has_names : Bool) (settings : Settings) (chunk : ℕ) (text : List ℕ) → IsFedText has_names settings chunk text fed
+fn bytes_of(alloc: Global, fed: Indexer) -> Result<Result<Vec<u8>, Refusal>, AllocError>
+    ensures bytes { IfOk result (λ read. IfOk read (λ bytes. (has_names : Bool) (settings : Settings) (chunk : ℕ) (text : List ℕ) → HasFed has_names settings chunk text fed
         → AreBytesOf has_names settings chunk text bytes.items × JudgedBy settings 0 text Accepted)) }
-    ensures refused { IfOk result (λ read. IfErr read (λ refusal. (has_names : Bool) (settings : Settings) (chunk : ℕ) (text : List ℕ) → IsFedText has_names settings chunk text fed
+    ensures refused { IfOk result (λ read. IfErr read (λ refusal. (has_names : Bool) (settings : Settings) (chunk : ℕ) (text : List ℕ) → HasFed has_names settings chunk text fed
         → JudgedBy settings 0 text (Refused refusal))) }
 {
     match fed.finish()? {

@@ -8,15 +8,13 @@ use Rattle.jx_run.specs.declared.texts.verdict.Verdict.{Verdict}
 use Rattle.jx_run.specs.declared.texts.verdict.Verdict.TheVariants.{Accepted, Refused}
 use Rattle.jx_index.specs.ByNames.{IsVerdictBy}
 use Rattle.jx_names.specs.Fed as fed
-use Rattle.jx_file_index.specs.declared.index.Index.{Index}
 use Rattle.jx_file_build.specs.declared.indexer.Indexer.{Indexer}
 use Rattle.jx_file_index.specs.Index.{IsIndexOf}
 use Rattle.jx_file_build.specs.Indexer.{HasFed}
 use Rattle.jx_file_index.specs.declared.saved_text.SavedText.{SavedText}
-use Rattle.jx_file_build.specs.NamesIfAsked.{AreFed, HasNames}
+use Rattle.jx_file_build.specs.TextTables.{HasNames}
 use Rattle.jx_file_index.specs.SavedTexts.{HasTablesToo}
 use Rattle.jx_ends.specs.Ends.{ReadsToEnd}
-use Rattle.jx_cmd_index.specs.declared.text_saving.TextSaving.{TextSaving}
 use Rattle.jx_cmd_index.specs.declared.saving.Saving.{Saving}
 use Rattle.jx_cmd_index.specs.declared.saving.Saving.TheVariants as saving
 
@@ -24,34 +22,22 @@ use Rattle.jx_cmd_index.specs.declared.saving.Saving.TheVariants as saving
 abbrev pub any_names : Settings → Settings
 any_names settings = record { depth = settings.depth; mark = settings.mark; names = Any }
 
--- these bytes were read from the start of an input
-abbrev pub IsSavingOf : Settings → ℕ → List ℕ → Saving → Type 0
-IsSavingOf settings chunk bytes (saving.Any indexer) = HasFed settings chunk bytes indexer
-IsSavingOf settings chunk bytes (saving.Unique indexer names) = HasFed (any_names settings) chunk bytes indexer × fed.HasFed settings bytes names
+-- these bytes were read from the start of an input, for tables of names too or not
+abbrev pub IsSavingOf : Bool → Settings → ℕ → List ℕ → Saving → Type 0
+IsSavingOf has_names settings chunk bytes (saving.Any indexer) = HasFed has_names settings chunk bytes indexer
+IsSavingOf has_names settings chunk bytes (saving.Unique indexer names) = HasFed has_names (any_names settings) chunk bytes indexer × fed.HasFed settings bytes names
 
 -- they were read for an index, and this is the verdict by their names, which have to be unique
-pub record IsByNames (settings : Settings) (chunk : ℕ) (bytes : List ℕ) (indexer : Indexer) (verdict : Verdict) : Type 0 where
+pub record IsByNames (has_names : Bool) (settings : Settings) (chunk : ℕ) (bytes : List ℕ) (indexer : Indexer) (verdict : Verdict) : Type 0 where
   pub unique : settings.names ≡ Unique
-  pub fed : HasFed (any_names settings) chunk bytes indexer
+  pub fed : HasFed has_names (any_names settings) chunk bytes indexer
   pub is_verdict : IsVerdictBy settings bytes verdict
 
--- the result for a text: its index, or why it is refused
-abbrev pub Comes : Settings → ℕ → List ℕ → Result Index Refusal → Type 0
-Comes settings chunk text (Ok index) = IsVerdictBy settings text Accepted × IsIndexOf settings chunk text index
-Comes settings chunk text (Err refusal) = IsVerdictBy settings text (Refused refusal)
-
--- ---- with tables of names, where these are asked for
-
--- these bytes were read from the start of an input
-pub record IsTextSavingOf (has_names : Bool) (settings : Settings) (chunk : ℕ) (bytes : List ℕ) (saving : TextSaving) : Type 0 where
-  pub index : IsSavingOf settings chunk bytes saving.index
-  pub names : AreFed has_names settings chunk bytes saving.names
-
 -- the reader gave these bytes, and they were read
-pub record HasReadOn (has_names : Bool) (settings : Settings) (chunk : ℕ) (unread left : Option (List ℕ)) (saving : TextSaving) : Type 0 where
+pub record HasReadOn (has_names : Bool) (settings : Settings) (chunk : ℕ) (unread left : Option (List ℕ)) (saving : Saving) : Type 0 where
   pub text : List ℕ
   pub read : Consumes unread left text
-  pub of : IsTextSavingOf has_names settings chunk text saving
+  pub of : IsSavingOf has_names settings chunk text saving
 
 -- what is saved of a text
 pub record IsSaved (has_names : Bool) (settings : Settings) (chunk : ℕ) (text : List ℕ) (saved : SavedText) : Type 0 where

@@ -1,45 +1,56 @@
 -- How far the names of a text's chunks were read.
-use Rattle.std.specs.Prelude.{◌≡◌, ℕ, ◌*◌, ◌<◌, List, ◌++◌, length, false}
-use Rattle.jx_reduce.specs.KnownStack.{start}
+use Rattle.std.specs.Prelude.{◌≡◌, ℕ, List, Bool, Option, None, Some, true, false}
+use Rattle.std.specs.List.{AllByRecursion}
+use Rattle.jx_reduce.specs.KnownStack.{Known, start}
 use Rattle.jx_reduce.specs.Read.{read}
+use Rattle.jx_run.specs.declared.readers.progress.Progress.{Progress}
 use Rattle.jx_run.specs.declared.texts.settings.Settings.{Settings}
-use Rattle.jx_run.specs.Reader.{HasRead, is_fault}
+use Rattle.jx_run.specs.Reader.{Outcome, is_fault}
+use Rattle.jx_run.specs.ReaderInside.{outcome_at}
 use Rattle.jx_run.specs.Telling.{tokens_by}
-use Rattle.jx_file_index.specs.Chunks.{IsCount}
+use Rattle.jx_index.specs.inside.InTurn.{AreInTurn}
+use Rattle.jx_file_index.specs.declared.name_tables.NameTables.{NameTables}
 use Rattle.jx_file_index.specs.Named.{AreNamed}
+use Rattle.jx_file_index.specs.SavedTexts.{FitsTable}
 use Rattle.jx_file_build.specs.declared.named_chunks.NamedChunks.{NamedChunks}
-use Rattle.jx_file_build.specs.inside.NameBlocks.{AreBlocksOf}
+use Rattle.jx_file_build.specs.inside.NameBlocks.{AreBlocksOf, FitBlocks, IsKeyCount}
 use Rattle.jx_file_build.specs.inside.ChunkNames.{HoldsName}
 
--- the names of chunks of this size, of these bytes
-pub record AreTold (settings : Settings) (size : ℕ) (bytes : List ℕ) (c : NamedChunks) : Type 0 where
+-- the names of so many chunks of this size, of these bytes
+pub record AreTold (settings : Settings) (size : ℕ) (bytes : List ℕ) (n : ℕ) (c : NamedChunks) : Type 0 where
   pub depth : c.standing.stack.depth ≡ settings.depth
   pub reading : c.standing.stack.reading ≡ read settings.depth (tokens_by settings.mark bytes).marks start
   pub names : List (List (List ℕ))
-  pub named : AreNamed settings size bytes c.blocks.chunks c.standing.begun names
+  pub named : AreNamed settings size bytes n c.standing.begun names
   pub name_is : HoldsName bytes c.standing.stack c.standing.begun c.standing.name.items
   pub blocks : AreBlocksOf names c.blocks
+  pub counted : c.blocks.chunks ≡ n
 
--- these bytes were read; unless there was a fault, what is kept are the names of their chunks
-pub record AreRead (settings : Settings) (size : ℕ) (bytes : List ℕ) (c : NamedChunks) : Type 0 where
-  pub settings_are : c.reader.settings ≡ settings
-  pub start_is : c.reader.start ≡ 0
-  pub read_is : HasRead bytes c.reader
-  pub told : is_fault c.reader.outcome ≡ false → AreTold settings size bytes c
+-- the same where they are asked for, and else there are none
+abbrev pub AreNames : Bool → Settings → ℕ → List ℕ → ℕ → Option NamedChunks → Type 0
+AreNames true settings size bytes n (Some c) = AreTold settings size bytes n c
+AreNames true settings size bytes n None = ⊥
+AreNames false settings size bytes n (Some c) = ⊥
+AreNames false settings size bytes n None = Unit {0}
 
--- and each chunk is whole
-pub record AreWhole (settings : Settings) (size : ℕ) (bytes : List ℕ) (c : NamedChunks) : Type 0 where
-  pub are : AreRead settings size bytes c
-  pub whole : length bytes ≡ c.blocks.chunks * size
+-- unless a reading has met a fault
+abbrev pub AreNamesAt : Bool → Settings → ℕ → List ℕ → ℕ → Progress → Known → Option NamedChunks → Type 0
+AreNamesAt has_names settings size bytes n progress stack names = is_fault (outcome_at progress stack.reading) ≡ false → AreNames has_names settings size bytes n names
 
--- and the last chunk may be shorter
-pub record AreAll (settings : Settings) (size : ℕ) (bytes : List ℕ) (c : NamedChunks) : Type 0 where
-  pub are : AreRead settings size bytes c
-  pub counted : IsCount size (length bytes) c.blocks.chunks
+-- a token has begun just where a reading is inside one
+abbrev pub AreBegun : Option Outcome → Option NamedChunks → Type 0
+AreBegun outcome names = AreInTurn (λ (c : NamedChunks). c.standing.begun) outcome names
 
--- these bytes are those of whole chunks and of a part of another, which is kept
-pub record AreHeld (settings : Settings) (size : ℕ) (bytes : List ℕ) (c : NamedChunks) (part : List ℕ) : Type 0 where
-  pub before : List ℕ
-  pub bytes_are : bytes ≡ before ++ part
-  pub whole : AreWhole settings size before c
-  pub short : length part < size
+-- ---- what is kept fits the bytes of tables
+
+pub record FitChunks (c : NamedChunks) : Type 0 where
+  pub few : IsKeyCount c.most
+  pub fit : FitBlocks c.blocks
+
+abbrev pub AreFit : Option NamedChunks → Type 0
+AreFit None = Unit {0}
+AreFit (Some c) = FitChunks c
+
+abbrev pub FitTables : Option NameTables → Type 0
+FitTables None = Unit {0}
+FitTables (Some t) = AllByRecursion FitsTable t.tables.items

@@ -1,6 +1,7 @@
--- The tally of the tokens of a chunk.
+-- What a known stack and a sink beside it have seen of the tokens of a chunk.
 use Rattle.std.specs.Prelude.{◌≡◌, ℕ, List, Bool}
 use Rattle.jx_lex.specs.declared.alphabet.mark.Mark.{Mark}
+use Rattle.jx_lex.specs.Seen.{Grows, Seen}
 use Rattle.jx_reduce.specs.KnownStack.{Known, IsFault}
 use Rattle.jx_reduce.specs.Read.{read}
 use Rattle.jx_file_index.specs.declared.sum.Sum.{Sum}
@@ -13,8 +14,8 @@ pub record Tells (marks : List Mark) (ends : List ℕ) (sum : Sum) (begins ended
   pub begins_is : begins ≡ has_some marks
   pub ends_is : ended ≡ has_some ends
 
--- after an earlier stack; after a fault of the token starts the tally is ignored
-pub record HasTallied (earlier : Known) (marks : List Mark) (ends : List ℕ) (stack : Known) (sum : Sum) (begins ended : Bool) : Type 0 where
+-- after an earlier stack, and what a sink had seen then; after a fault of the token starts the sink is ignored
+pub record HasTallied (old : Seen) (earlier : Known) (new : Seen) (marks : List Mark) (ends : List ℕ) (stack : Known) : Type 0 where
   pub depth : stack.depth ≡ earlier.depth
   pub reading : stack.reading ≡ read earlier.depth marks earlier.reading
-  pub told : (IsFault stack.reading → ⊥) → Tells marks ends sum begins ended
+  pub told : (IsFault stack.reading → ⊥) → Grows old new marks ends

@@ -2,7 +2,7 @@ use Rattle.std.specs.Prelude.{Option}
 use Rattle.std.proofs.Common.{subst, ◌∙◌}
 use Rattle.std.proofs.lemmas.Result.{IfOk-weaker}
 use Rattle.jx_file_index.specs.declared.name_tables.NameTables.{NameTables}
-use Rattle.jx_file_build.specs.FedNames.{KeepsNames}
+use Rattle.jx_file_build.specs.TextTables.{KeepsNames}
 use Rattle.jx_c.proofs.saving.opened.resumed.Goals as goal
 
 pub returns-in-Some-clause-index : goal.returns-in-Some-clause-index

@@ -10,10 +10,10 @@ carried (Err e) holds goes = holds
 
 pub returns-in-Any : goal.returns-in-Any
 returns-in-Any c = carried c.feed.result c.feed.ensures.fed
-    (λ fed settings chunk bytes h. fed settings chunk bytes (subst (λ (s : Saving). IsSavingOf settings chunk bytes s) c.in-Any.is h))
+    (λ fed has_names settings chunk bytes h. fed has_names settings chunk bytes (subst (λ (s : Saving). IsSavingOf has_names settings chunk bytes s) c.in-Any.is h))
 
 pub returns-in_ok-feed-in-Unique : goal.returns-in_ok-feed-in-Unique
 returns-in_ok-feed-in-Unique c = carried c.feed-in-Unique-2.result c.feed-in-Unique-2.ensures.fed
-    (λ fed settings chunk bytes h.
-    let both = subst (λ (s : Saving). IsSavingOf settings chunk bytes s) c.in-Unique.is h in
-    (fed _ chunk bytes both.0, c.in_ok-feed-in-Unique.ensures.fed settings bytes both.1))
+    (λ fed has_names settings chunk bytes h.
+    let both = subst (λ (s : Saving). IsSavingOf has_names settings chunk bytes s) c.in-Unique.is h in
+    (fed has_names _ chunk bytes both.0, c.in_ok-feed-in-Unique.ensures.fed settings bytes both.1))

@@ -15,7 +15,7 @@ chunks-preserved c =
     record {
       within = omega (arith, low, test, some);
       count = let n = c.in_ok-held.ensures.count in let before = c.chunks.invariant.count in omega (arith, n, before, long);
-      whole = λ settings before h.
-          chunk_added settings size before bytes at c.chunks.held c.in_ok-held.held (omega (arith, low, test, some)) (c.chunks.invariant.whole settings before h) c.in_ok-held.ensures.entries
-          (λ xs whole le. c.in_ok-held.ensures.entered settings size xs whole le);
+      whole = λ has_names settings before h.
+          chunk_added has_names settings size before bytes at c.chunks.held c.in_ok-held.held (omega (arith, low, test, some)) (c.chunks.invariant.whole has_names settings before h) c.in_ok-held.ensures.entries
+          (λ xs whole le. c.in_ok-held.ensures.entered has_names settings size xs whole le);
     }

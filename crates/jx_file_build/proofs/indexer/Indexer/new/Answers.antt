@@ -15,7 +15,7 @@ returns c =
         kept = c.new.result;
         kept_is = refl;
         held =
-            subst (λ (xs : List ℕ). AreHeld settings chunk [] c.new.result xs) (sym c.new-2.ensures.items)
-            (part_none settings chunk c.new.result (c.new.ensures chunk) (let low = c.bytes.ensures.within.0 in let is = c.bytes.ensures.value in omega (arith, low, is)));
+            subst (λ (xs : List ℕ). AreHeld c.args.has_names settings chunk [] c.new.result xs) (sym c.new-2.ensures.items)
+            (part_none c.args.has_names settings chunk c.new.result (c.new.ensures chunk) (let low = c.bytes.ensures.within.0 in let is = c.bytes.ensures.value in omega (arith, low, is)));
       };
     }

@@ -3,6 +3,5 @@ use Rattle.jx_file_build.proofs.tally.TallyTokenSink.end.Goals as goal
 
 pub returns-clause-seen : goal.returns-clause-seen
 returns-clause-seen g c = λ marks ends h.
-    let old = c.args.self.now in
-    let new = c.end.new.self in
-    tallied_end g.E.Earlier.stack marks ends old.stack old.chunk.sink.sum old.chunk.sink.begins old.chunk.sink.ends h c.args.at new.sum new.begins new.ends c.in_ok-end.ensures.seen
+    tallied_end g.E.Earlier.seen g.E.Earlier.stack (g.K.TokenSink.has_seen c.args.self.now.other.sink) marks ends c.args.self.now.stack h c.args.at (g.K.TokenSink.has_seen c.end.new.self)
+    c.in_ok-end.ensures.seen
