@@ -1,7 +1,8 @@
-"""by_offsets.py PROGRAM COMMAND: makes the texts, or the sequences, that lines on standard input name, and compares what `check`, or `seq`, by
-several workers answers to them with what is known of each by how it was made, and with what one worker answers. Prints each difference, and
-how many answers were right."""
+"""by_offsets.py PROGRAM COMMAND: makes the texts, the sequences or the JSON Lines that lines on standard input name, and compares what `check`,
+`seq` or `lines` by several workers answers to them with what is known of each by how it was made, and with what one worker answers. Prints each
+difference, and how many answers were right."""
 import pathlib
+import random
 import subprocess
 import sys
 
@@ -169,12 +170,97 @@ def compare_sequences(program, room, line):
     return right, wrong
 
 
+# The bytes of a line, and its verdict where it is refused, behind which its offset stands where it has one. A depth of 2 is the limit of `deep`
+# alone.
+LINES = {
+    "object": ('{"a":[1,"\u00e9"]}'.encode(), None, None),
+    "number": (b"12", None, None),
+    "cut": (b"[1,2", "truncated", None),
+    "bad": (b"[1,}", "stopped at", 3),
+    "control": (b'"\x01"', "stopped at", 1),
+    "blank": (b" \r", "blank", None),
+    "nothing": (b"", "blank", None),
+    "deep": (b"[[[1]]]", "too deep at", 2),
+    "long": (b'"' + b"x" * 300000 + b'"', None, None),
+    "huge": (b'"' + b"x" * 3000000 + b'"', None, None),
+}
+
+
+def json_lines(size, front, names, is_ended, options):
+    """JSON Lines of some such size, and the output for them. A byte order mark in front is ignored or refused."""
+    text, told, good, bad, number = bytearray(), [], 0, 0, 0
+    while len(text) < size:
+        for name in names:
+            line, verdict, at = LINES[name]
+            if front and not text:
+                text += FRONT_MARK
+                if "--ignore-bom" not in options:
+                    line, verdict, at = FRONT_MARK + line, "stopped at", 0
+                    del text[:]
+            start, number = len(text), number + 1
+            text += line + b"\n"
+            if verdict == "blank" and "--skip-blank" in options:
+                continue
+            good, bad = good + (verdict is None), bad + (verdict is not None)
+            if verdict:
+                told.append(f"{number} {start}..{start + len(line)} {verdict}" + ("" if at is None else f" {start + at}"))
+    if not is_ended:
+        start = len(text)
+        text, number, bad = text + b"12", number + 1, bad + 1
+        told.append(f"{number} {start}..{start + 2} may be cut")
+    return bytes(text), "".join(f"{line}\n" for line in [*told, f"accepted {good}, refused {bad}"]), int(bad > 0)
+
+
+def compare_lines(program, room, line):
+    """How many answers to the JSON Lines of a line are right, and which are wrong."""
+    piece, size, front, names, end, options = (part.strip() for part in line.split("|"))
+    path = room / "lines"
+    settings = ["lines", *options.split()]
+    pieces = [] if piece == "-" else ["--piece", piece]
+    is_short = piece != "-" and int(piece) < 64
+    right, wrong = 0, []
+
+    def said(*more):
+        done = subprocess.run([program, *settings, *more, path], stdin=subprocess.DEVNULL, capture_output=True)
+        return done.returncode, done.stdout, done.stderr
+
+    def look(wanted, *more):
+        nonlocal right
+        got = said(*pieces, *more)
+        if got == wanted:
+            right += 1
+        else:
+            wrong.append(f"{line}, {more}: status {got[0]}, {len(got[1])} bytes for {len(wanted[1])}; {got[2][:300]}")
+
+    if names == "random":
+        # Made of few bytes, so that lines are texts, refused, blank and cut in all places.
+        many = random.Random(line)
+        text = b"".join(many.choices([b"\n", b"1", b"[1]", b" ", b'"', b"{}", b"[", b"\\", b'{"a":2}\n', b"1\n"], k=int(size) // 2))
+        path.write_bytes((FRONT_MARK if front == "mark" else b"") + text)
+        whole = said("--workers", "1")
+    else:
+        text, words, status = json_lines(int(size), front == "mark", names.split(), end == "ended", options.split())
+        path.write_bytes(text)
+        whole = (status, words.encode(), b"")
+    for workers in ("1", "2") if is_short else ("1", "2", "3", "4", "8"):
+        look(whole, "--workers", workers)
+    look((whole[0], b"", b""), "--workers", "3", "-q")
+    for more in ([],) if is_short else ([], ["--format", "gnu"], ["--format", "json"], ["-l"], ["-H"], ["--skip-blank"]):
+        look(said("--workers", "1", *more), "--workers", "4", *more)
+    # The end, cut at each of its last bytes: what one worker answers is what several do.
+    text = path.read_bytes()
+    for by in (3,) if is_short else range(1, 12):
+        path.write_bytes(text[:-by])
+        look(said("--workers", "1"), "--workers", "4")
+    return right, wrong
+
+
 def main():
     room = pathlib.Path("texts")
     room.mkdir(exist_ok=True)
     right, wrong = 0, []
     for line in sys.stdin.read().splitlines():
-        more, differences = {"check": compare, "seq": compare_sequences}[sys.argv[2]](sys.argv[1], room, line)
+        more, differences = {"check": compare, "seq": compare_sequences, "lines": compare_lines}[sys.argv[2]](sys.argv[1], room, line)
         right += more
         wrong += differences
     print(*wrong, sep="\n", end="\n" if wrong else "")

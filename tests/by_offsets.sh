@@ -1,7 +1,7 @@
 #!/usr/bin/env bash
-# `check FILE..` and `seq FILE..` by several workers, which read a regular file at offsets, each for itself. Texts are made of sizes around
-# the borders between what workers read, and cut and damaged there: each answer is what the text was made for, and what one worker answers.
-# So it is of sequences, whose elements lie across all borders.
+# `check FILE..`, `seq FILE..` and `lines FILE..` by several workers, which read a regular file at offsets, each for itself. Texts are made of
+# sizes around the borders between what workers read, and cut and damaged there: each answer is what the text was made for, and what one worker
+# answers. So it is of sequences and of JSON Lines, whose elements and lines lie across all borders.
 . "$(dirname "$0")/lib.sh"
 
 # BYTES OF A PIECE | PIECES OF A TEXT | TEXTS | WHAT BECOMES OF EACH | OPTIONS. A `-` is the size without --piece. Each number of pieces
@@ -60,6 +60,42 @@ LINES
 each_sequence_is_answered_as_it_was_made() {
     local told
     told=$(sequences | python3 "$root/tests/by_offsets.py" "$program" seq 2>&1)
+    has "$told" ' 0 wrong' " ${told##*, }"
+    if [[ $told =~ ([0-9]+)\ right ]]; then passed=$((passed + BASH_REMATCH[1])); fi
+}
+
+# BYTES OF A PIECE | BYTES | `mark` in front, or `-` | LINES IN TURN, or `random` | `ended` or `open` | OPTIONS. A file is read at offsets from a
+# MiB on.
+json_lines() {
+    cat <<'LINES'
+2 | 1048576 | - | object nothing number cut bad | ended |
+7 | 1048600 | mark | object blank number bad control | open |
+7 | 1048600 | mark | nothing nothing number nothing | ended | --ignore-bom
+64 | 1048580 | - | object blank bad cut number nothing control | open |
+64 | 1048580 | mark | bad | ended | --ignore-bom
+64 | 1048576 | - | random | - |
+1000 | 1100000 | - | object deep nothing number | ended | --depth 2
+1000 | 1100000 | mark | long object number | open | --ignore-bom
+1000 | 1048576 | mark | random | - | --ignore-bom
+4096 | 1500000 | - | object bad blank number cut | ended | --skip-blank
+4096 | 1048576 | - | nothing | ended |
+4096 | 1048576 | - | random | - | --depth 1
+65536 | 1600000 | - | object | ended |
+262144 | 3000000 | mark | long number object control | open |
+- | 3000000 | - | object object object object object object object object object bad | ended |
+- | 5000000 | - | cut | open |
+- | 5000000 | - | number object blank | ended | --skip-blank
+- | 9000000 | - | long long object bad number | ended |
+- | 9000000 | - | huge bad huge huge object | open |
+- | 2000000 | mark | random | - |
+8388608 | 20000000 | - | object number object bad | ended |
+1073741824 | 2000000 | - | object number control | open |
+LINES
+}
+
+each_line_is_answered_as_it_was_made() {
+    local told
+    told=$(json_lines | python3 "$root/tests/by_offsets.py" "$program" lines 2>&1)
     has "$told" ' 0 wrong' " ${told##*, }"
     if [[ $told =~ ([0-9]+)\ right ]]; then passed=$((passed + BASH_REMATCH[1])); fi
 }
@@ -152,4 +188,4 @@ what_is_no_regular_file_is_read_as_a_stream() {
 }
 
 make_files
-tests each_text_is_answered_as_it_was_made each_sequence_is_answered_as_it_was_made a_sequence_may_have_one_element_or_none each_call_is_answered_as_its_line_says what_is_no_regular_file_is_read_as_a_stream
+tests each_text_is_answered_as_it_was_made each_sequence_is_answered_as_it_was_made each_line_is_answered_as_it_was_made a_sequence_may_have_one_element_or_none each_call_is_answered_as_its_line_says what_is_no_regular_file_is_read_as_a_stream

@@ -49,8 +49,9 @@ jx.1 | one of them reads the text and makes its index. | threads 0 0 | text.2000
 jx.1 | One worker reads the text, looks up fewer pointers, looks up by --index, and answers with --lines. | threads 0 0 | text.20000000 | get /1 /2
 jx.1 | One worker reads the text, looks up fewer pointers, looks up by --index, and answers with --lines. | threads 0 0 | lines.20000000 | get --lines /n
 jx.1 | They share what one read gives, from a MiB on. | threads 4 - | text.20000000 | each --workers 4
-jx.1 | Workers share what one read gives, if it is a MiB or more. | threads 0 0 | lines.1048575 | lines --workers 4 -q
-jx.1 | Workers share what one read gives, if it is a MiB or more. | threads 4 4 | lines.1200000 | lines --workers 4 -q
+jx.1 | A regular FILE of a MiB or more is read by workers, each for itself. | threads 0 0 | lines.1048575 | lines --workers 4 -q
+jx.1 | A regular FILE of a MiB or more is read by workers, each for itself. | threads 4 - | lines.1200000 | lines --workers 4 -q
+jx.1 | What is due is written after 16 MiB at most, or 64 chunks of another size. | memory - 24000 | lines.40000000 | lines --workers 4
 jx.1 | A read of a pipe mostly gives less, and then one worker reads. | threads 0 0 | cat lines.20000000 | lines --workers 4 -q
 jx.1 | One worker reads, and no element is kept in memory. | threads 0 0 | seq.20000000 | seq --live
 jx.1 | One worker reads, and no element is kept in memory. | memory - 8000 | seq.20000000 | seq --live

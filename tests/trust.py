@@ -43,6 +43,7 @@ COMMANDS = {
     "`get`": ({"jx_values/src/reporting": ["report_values"]}, without("Check Index Seq")),
     "`each`": ({"jx_values/src/elements": ["report_elements"]}, without("Index At Seq")),
     "`lines`": ({"jx_ndjson_report/src/reporting": ["report_lines"]}, without("Index At Seq")),
+    "`lines` of a file by several workers": ({"jx_parallel_report/src/lines_report": ["report_lines_at"]}, without("Index At Seq")),
     "`get --lines`": ({"jx_line_values/src/reporting": ["report_line_values"]}, without("Index At Seq")),
     "`seq --live`": ({"jx_ndjson_report/src/reporting": ["report_sequence"]}, without("Index At Seq")),
     "`at --index`": ({"jx_cmd_index/src/places_reporting": ["report_places"]}, without("Check Index Seq")),
@@ -67,6 +68,7 @@ FIRST = "`jx check`"
 # The parts that a part counts as read, beside the first one.
 BEYOND = {
     "`get`": ["`at`"],
+    "`lines` of a file by several workers": ["`lines`"],
     "`get --lines`": ["`lines`", "`get`"],
     "`seq --live`": ["`seq`"],
     "`at --index`": ["`at`", "`save`"],

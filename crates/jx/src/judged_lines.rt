@@ -2,9 +2,10 @@
 ghost use Rattle.std.specs.Prelude.{◌≡◌, ◌≤◌, false};
 
 use crate::fault::Fault;
-use crate::input::{fault_of_report, name_of, open, told_of};
+use crate::input::{Reader, fault_of_report, name_of, open, told_of};
 use crate::listing::write_name;
 use crate::output::{Output, Writer};
+use crate::shared_file::{report_on_lines, share};
 use jx_command::{Input, Inputs, LinesOrder, LiveOrder, Told, input_of};
 use jx_crew::{Crew, OpenGate, Workers};
 use jx_ends::{End, ReportFault};
@@ -96,6 +97,63 @@ fn task_of(asked: &Asked<'_>, front: Vec<u8>) -> Task {
     }
 }
 
+/// Reads an input from its start to its end, and reports its lines or elements.
+fn tell_from<R: Threads + Wait + Sync>(
+    rt: &HostRuntime,
+    crew: &Crew<'_, R, OpenGate>,
+    input: Input<'_>,
+    reader: Reader<'_>,
+    writer: &mut Writer,
+    task: &Task,
+    piece: usize,
+) -> Result<Status, Fault>
+    requires reader { reader.failed ≡ false }
+    requires writer { writer.old.failed ≡ false }
+    requires piece { 1 ≤ piece }
+{
+    let mut reader = reader;
+    let told = match task {
+        Task::Lines(task) => report_lines(crew, &mut reader, writer, task, piece),
+        Task::Elements(task) => report_sequence(crew, &mut reader, writer, task),
+    };
+    match told {
+        Ok(exit) => Ok(Status::of_exit(exit)),
+        Err(fault) => Err(fault_of_report(rt, input, &reader, writer, fault)),
+    }
+}
+
+/// Reports the lines of an input: a regular file is read at offsets by the crew.
+fn tell_shared<R: Threads + Wait + Sync>(
+    rt: &HostRuntime,
+    crew: &Crew<'_, R, OpenGate>,
+    input: Input<'_>,
+    reader: Reader<'_>,
+    writer: &mut Writer,
+    task: &Task,
+    piece: usize,
+) -> Result<Status, Fault>
+    requires reader { reader.failed ≡ false }
+    requires writer { writer.old.failed ≡ false }
+    requires piece { 1 ≤ piece }
+{
+    let Task::Lines(lines) = task else {
+        return tell_from(rt, crew, input, reader, writer, task, piece);
+    };
+    match share(reader) {
+        Ok(file) => report_on_lines(
+            rt,
+            crew.rt,
+            input,
+            &file,
+            writer,
+            lines,
+            crew.workers,
+            piece,
+        ),
+        Err(reader) => tell_from(rt, crew, input, reader, writer, task, piece),
+    }
+}
+
 /// Reads an input, and reports its lines or elements.
 fn tell_input<R: Threads + Wait + Sync>(
     rt: &HostRuntime,
@@ -108,14 +166,11 @@ fn tell_input<R: Threads + Wait + Sync>(
     requires writer { writer.old.failed ≡ false }
     requires piece { 1 ≤ piece }
 {
-    let mut reader = open(rt, input)?;
-    let told = match task {
-        Task::Lines(task) => report_lines(crew, &mut reader, writer, task, piece),
-        Task::Elements(task) => report_sequence(crew, &mut reader, writer, task),
-    };
-    match told {
-        Ok(exit) => Ok(Status::of_exit(exit)),
-        Err(fault) => Err(fault_of_report(rt, input, &reader, writer, fault)),
+    let reader = open(rt, input)?;
+    if crew.workers.count() > 1 {
+        tell_shared(rt, crew, input, reader, writer, task, piece)
+    } else {
+        tell_from(rt, crew, input, reader, writer, task, piece)
     }
 }
 

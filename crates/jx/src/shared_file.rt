@@ -6,10 +6,12 @@ use crate::fault::Fault;
 use crate::input::{Reader, file_in, told_of};
 use crate::output::{Output, Writer, fault_of_write};
 use jx_command::Input;
+use jx_crew::Workers;
 use jx_ends::{End, ReportFault};
 use jx_files::{FileFault, Reason, Status};
+use jx_ndjson_report::LinesTask;
 use jx_parallel::SharedAt;
-use jx_parallel_report::{ReportAtFault, report_at};
+use jx_parallel_report::{ReportAtFault, report_at, report_lines_at};
 use jx_task::Command;
 use std::fs::File;
 use std::os::unix::fs::FileExt;
@@ -79,5 +81,25 @@ pub fn report_on_file<R: Threads + Wait + Sync>(
     match report_at(threads, rt.alloc(), file, &mut writer, command) {
         Ok(exit) => Ok(Status::of_exit(exit)),
         Err(fault) => Err(fault_of(rt, input, &writer, fault)),
+    }
+}
+
+/// Reports on the lines of a file by several workers.
+pub fn report_on_lines<R: Threads + Wait + Sync>(
+    rt: &HostRuntime,
+    threads: &R,
+    input: Input<'_>,
+    file: &SharedFile,
+    writer: &mut Writer,
+    task: &LinesTask,
+    workers: Workers,
+    piece: usize,
+) -> Result<Status, Fault>
+    requires writer { writer.old.failed ≡ false }
+    requires piece { 1 ≤ piece }
+{
+    match report_lines_at(threads, rt.alloc(), file, writer, task, workers, piece) {
+        Ok(exit) => Ok(Status::of_exit(exit)),
+        Err(fault) => Err(fault_of(rt, input, writer, fault)),
     }
 }

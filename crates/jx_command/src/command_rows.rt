@@ -179,7 +179,7 @@ const LINES: CommandRow = CommandRow {
         option::FILE,
         option::DEPTH,
         ArgRow {
-            long_help: help::READ_WORKERS,
+            long_help: help::LINES_WORKERS,
             ..option::WORKERS
         },
         ArgRow {

@@ -164,6 +164,12 @@ itself, from a MiB on. Standard input and pipes, and any input with
 --ignore-bom or --unique-names, they share from 5.25 MiB on. One
 worker reads with --live.";
 
+pub const LINES_WORKERS: &str = "Share the work among N workers, 1 to 64, or auto: one for each
+processor that jx may use, at most 16. The answer is the same for
+every number. Of a FILE each worker reads chunks of 256 KiB for
+itself, from a MiB on. Of standard input or a pipe they share what
+one read gives, from a MiB on.";
+
 pub const READ_WORKERS: &str = "Share the work among N workers, 1 to 64, or auto: one for each
 processor that jx may use, at most 16. The answer is the same for
 every number. They share what one read gives, from a MiB on.";

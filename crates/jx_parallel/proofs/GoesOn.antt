@@ -1,6 +1,9 @@
 -- How readings go on.
 use Rattle.std.proofs.Common.{◌≡◌, ℕ, List, [], ◌++◌, length, Bool, true, false, refl, sym, subst, append_assoc, append-nil}
-use Rattle.std.specs.Prelude.{Option, None, Some}
+use Rattle.std.specs.Prelude.{Option, None, Some, Result, Err, IfErr}
+use Rattle.jx_parallel.specs.declared.check_fault.CheckFault.{CheckFault}
+use Rattle.jx_parallel.specs.declared.check_fault.CheckFault.TheVariants.{Memory, Read}
+use Rattle.jx_parallel.specs.Faults.{IfRead}
 use Rattle.jx_parallel.specs.Offsets.{EndsBefore, StandThere}
 use Rattle.jx_parallel.specs.Parts.{GoesOn, HasReadAll, Readings}
 use Rattle.jx_parallel.specs.inside.Placed.{IsPlaced, PlacedValue}
@@ -35,6 +38,17 @@ module _ {Reader : Type 0} (known : Option (List ℕ)) (has_read : Readings Read
         taken refl xs h.bytes given r h.long (subst (λ (n : ℕ). is_part n h.bytes p.part) meet h.is),
       )
   takes is_part old new p h long false taken left = subst (λ (r : Reader). GoesOn known has_read old r) (sym (left refl)) (stays old)
+
+  -- a read fault that is handed on, from where a reader got to
+  pub stops_behind : {T U E : Type 0} (a b c : Reader) (q : Result T (CheckFault E)) (r : Result U (CheckFault E)) (x y : CheckFault E) → GoesOn known has_read a b
+      → IfErr q (IfRead (GoesOn known has_read b c)) → q ≡ Err x → r ≡ Err y → y ≡ x → IfErr r (IfRead (GoesOn known has_read a c))
+  stops_behind {E = E} a b c q r x y first next was is same =
+      let there : IfRead (GoesOn known has_read b c) x = subst (λ s. IfErr s (IfRead (GoesOn known has_read b c))) was next in
+      subst (λ s. IfErr s (IfRead (GoesOn known has_read a c))) (sym is) (subst (λ (f : CheckFault E). IfRead (GoesOn known has_read a c) f) (sym same) (further x there))
+    where
+      further : (f : CheckFault E) → IfRead (GoesOn known has_read b c) f → IfRead (GoesOn known has_read a c) f
+      further Memory h = tt
+      further (Read reason) h = and_then a b c first h
 
 none_there : (known : Option (List ℕ)) → StandThere known 0 []
 none_there None = tt

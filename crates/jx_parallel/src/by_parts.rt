@@ -1,6 +1,6 @@
 ghost use Rattle.std.specs.Prelude.{◌≡◌, ◌<◌, ◌≤◌, ℕ, List, [], false, IfErr, IfOk, OnOk, length, vec_len};
 ghost use Rattle.std.specs.Thread.{IsSend, IsSync};
-ghost use Rattle.jx_parallel.specs.Faults.{ReadFailsBy};
+ghost use Rattle.jx_parallel.specs.Faults.{IfRead, ReadFailsBy};
 ghost use Rattle.jx_parallel.specs.Offsets.{EndsBefore};
 ghost use Rattle.jx_parallel.specs.Parts.{GoesOn, HasReadAll};
 
@@ -90,6 +90,7 @@ fn read_round_of<
     requires rule { rule.now ≡ K.rule }
     ensures length { length buffer.new ≡ length buffer.old }
     ensures read { OnOk result (GoesOn (F.content file.now) (L.has_read rule.now) reader.old reader.new) }
+    ensures stopped { IfErr result (IfRead (GoesOn (F.content file.now) (L.has_read rule.now) reader.old reader.new)) }
     ensures fault { IfErr result (ReadFailsBy (F.may_fail file.now)) }
 {
     let piece = buffer.len();
@@ -122,8 +123,10 @@ pub fn read_round<F: SharedAt + Sync, L: PartReader + Send, R: Threads + Wait + 
 ) -> Result<bool, CheckFault<F::Fault>>
     requires room { 0 < length buffer.old }
     ensures length { length buffer.new ≡ length buffer.old }
-    // For every number of workers and chunks, size of chunks and order of steps, it has read the bytes that come next.
+    // For every number of workers and chunks, size of chunks and order of steps, it has read the bytes that come next; after a
+    // read fault those before it.
     ensures read { OnOk result (GoesOn (F.content file.now) (L.has_read rule.now) reader.old reader.new) }
+    ensures stopped { IfErr result (IfRead (GoesOn (F.content file.now) (L.has_read rule.now) reader.old reader.new)) }
     ensures end { IfOk result (λ more. more ≡ false → EndsBefore (F.content file.now) (L.end reader.new)) }
     ensures fault { IfErr result (ReadFailsBy (F.may_fail file.now)) }
 {

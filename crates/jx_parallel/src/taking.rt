@@ -1,6 +1,6 @@
 // How parts are taken in turn, and the bytes between them are read.
 ghost use Rattle.std.specs.Prelude.{◌≡◌, ◌<◌, IfErr, IfOk, OnOk, length};
-ghost use Rattle.jx_parallel.specs.Faults.{ReadFailsBy};
+ghost use Rattle.jx_parallel.specs.Faults.{IfRead, ReadFailsBy};
 ghost use Rattle.jx_parallel.specs.Offsets.{EndsBefore};
 ghost use Rattle.jx_parallel.specs.Parts.{GoesOn};
 
@@ -22,6 +22,7 @@ pub(crate) fn read_there<F: SharedAt, L: PartReader>(
 ) -> Result<usize, CheckFault<F::Fault>>
     ensures length { length buffer.new ≡ length buffer.old }
     ensures read { OnOk result (GoesOn (F.content file.now) (L.has_read rule.now) reader.old reader.new) }
+    ensures stopped { IfErr result (IfRead (GoesOn (F.content file.now) (L.has_read rule.now) reader.old reader.new)) }
     ensures end { IfOk result (λ count. count ≡ 0 → 0 < length buffer.old → EndsBefore (F.content file.now) (L.end reader.new)) }
     ensures fault { IfErr result (ReadFailsBy (F.may_fail file.now)) }
 {
@@ -48,6 +49,7 @@ pub(crate) fn read_to<F: SharedAt, L: PartReader, R: Wait>(
 ) -> Result<(), CheckFault<F::Fault>>
     ensures length { length buffer.new ≡ length buffer.old }
     ensures read { OnOk result (GoesOn (F.content file.now) (L.has_read rule.now) reader.old reader.new) }
+    ensures stopped { IfErr result (IfRead (GoesOn (F.content file.now) (L.has_read rule.now) reader.old reader.new)) }
     ensures fault { IfErr result (ReadFailsBy (F.may_fail file.now)) }
 {
     for _ in rt.forever() {
@@ -120,6 +122,7 @@ fn take_there<F: SharedAt, K: Ruled, L: PartReader, R: Wait>(
     requires rule { rule.now ≡ K.rule }
     ensures length { length buffer.new ≡ length buffer.old }
     ensures read { OnOk result (GoesOn (F.content file.now) (L.has_read rule.now) reader.old reader.new) }
+    ensures stopped { IfErr result (IfRead (GoesOn (F.content file.now) (L.has_read rule.now) reader.old reader.new)) }
     ensures fault { IfErr result (ReadFailsBy (F.may_fail file.now)) }
 {
     read_to(rt, file, rule, buffer, part.at(), reader)?;
@@ -140,6 +143,7 @@ pub(crate) fn take_parts<F: SharedAt, K: Ruled, L: PartReader, R: Wait>(
     requires rule { rule.now ≡ K.rule }
     ensures length { length buffer.new ≡ length buffer.old }
     ensures read { OnOk result (GoesOn (F.content file.now) (L.has_read rule.now) reader.old reader.new) }
+    ensures stopped { IfErr result (IfRead (GoesOn (F.content file.now) (L.has_read rule.now) reader.old reader.new)) }
     ensures fault { IfErr result (ReadFailsBy (F.may_fail file.now)) }
 {
     let mut parts = parts;

@@ -1,2 +1,3 @@
+pub mod LinesAt
 pub mod ReportsAt
 pub mod inside

@@ -1,12 +1,16 @@
-//! The reports of `jx check` and `jx seq` on bytes that several threads read at offsets, each for itself.
+//! The reports of `jx check`, `jx seq` and `jx lines` on bytes that several threads read at offsets, each for itself.
 #![tactic(auto)]
 
 mod elements_part;
 mod elements_reader;
 mod elements_report;
+mod lines_reader;
+mod lines_report;
+mod lines_words;
 mod report_at_fault;
 mod reporting;
 mod steps;
 
+pub use lines_report::report_lines_at;
 pub use report_at_fault::ReportAtFault;
 pub use reporting::{is_shared, report_at};
