@@ -44,6 +44,7 @@ COMMANDS = {
     "`each`": ({"jx_values/src/elements": ["report_elements"]}, without("Index At Seq")),
     "`lines`": ({"jx_ndjson_report/src/reporting": ["report_lines"]}, without("Index At Seq")),
     "`lines` of a file by several workers": ({"jx_parallel_report/src/lines_report": ["report_lines_at"]}, without("Index At Seq")),
+    "`lines --pass`": ({"jx_ndjson_report/src/passing": ["pass_lines"]}, without("Index At Seq")),
     "`get --lines`": ({"jx_line_values/src/reporting": ["report_line_values"]}, without("Index At Seq")),
     "`seq --live`": ({"jx_ndjson_report/src/reporting": ["report_sequence"]}, without("Index At Seq")),
     "`at --index`": ({"jx_cmd_index/src/places_reporting": ["report_places"]}, without("Check Index Seq")),
@@ -69,6 +70,7 @@ FIRST = "`jx check`"
 BEYOND = {
     "`get`": ["`at`"],
     "`lines` of a file by several workers": ["`lines`"],
+    "`lines --pass`": ["`lines`"],
     "`get --lines`": ["`lines`", "`get`"],
     "`seq --live`": ["`seq`"],
     "`at --index`": ["`at`", "`save`"],

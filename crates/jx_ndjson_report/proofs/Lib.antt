@@ -1,4 +1,6 @@
 pub mod ElementTakes
+pub mod PassWrites
+pub mod Passes
 pub mod Told
 pub mod Takes
 pub mod Writes

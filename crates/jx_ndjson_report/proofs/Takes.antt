@@ -22,7 +22,7 @@ use Rattle.jx_words.specs.Verdicts.{shown_output}
 use Rattle.jx_ndjson_report.specs.declared.task.LinesTask.{LinesTask}
 use Rattle.jx_ndjson_report.specs.Output.{IsDue, LinesOutput, bad_lines, bad_of, good_of, is_bad, is_good, total_words}
 use Rattle.jx_ndjson_report.specs.inside.LineSteps.{bad_line, exit_by}
-use Rattle.jx_ndjson_report.specs.inside.LineTeller.{HasTaken, LineTellerValue}
+use Rattle.jx_ndjson_report.specs.inside.LineTeller.{HasTaken, HasTakenAs, LineTellerValue}
 use Rattle.jx_ndjson_report.proofs.Told.{lines_among, more_bad, more_good, more_lines, one_more_bad, one_more_good, one_more_line, others_good, same_exit, told_among}
 
 -- ---- results
@@ -114,6 +114,20 @@ takes_line task bytes more given j old new h good bad ready reads =
           ∙ sym (one_more_line task h.answers j);
     }
 
+-- the answers then
+pub takes_none_as : (task : LinesTask) (bytes more given : List ℕ) (old new : LineTellerValue) (h : HasTaken task bytes given old) → new.good ≡ old.good → new.bad ≡ old.bad → new.ready ≡ old.ready
+    → ((settings : Settings) (input : List ℕ) (told : List JudgedLine) → HasTold settings input told old.lines → HasTold settings (input ++ more) (told ++ []) new.lines)
+    → HasTakenAs task (bytes ++ more) given (h.answers ++ []) new
+unfolding takes_none
+takes_none_as task bytes more given old new h good bad ready reads = (takes_none task bytes more given old new h good bad ready reads, sym (append-nil h.answers))
+
+pub takes_line_as : (task : LinesTask) (bytes more given : List ℕ) (j : JudgedLine) (old new : LineTellerValue) (h : HasTaken task bytes given old) → new.good ≡ old.good + cond (is_good j.verdict) 1 0
+    → new.bad ≡ old.bad + cond (is_bad task.blanks j.verdict) 1 0 → new.ready ≡ old.ready ++ bad_line task j
+    → ((settings : Settings) (input : List ℕ) (told : List JudgedLine) → HasTold settings input told old.lines → HasTold settings (input ++ more) (told ++ j ∷ []) new.lines)
+    → HasTakenAs task (bytes ++ more) given (h.answers ++ j ∷ []) new
+unfolding takes_line
+takes_line_as task bytes more given j old new h good bad ready reads = (takes_line task bytes more given j old new h good bad ready reads, refl)
+
 -- whole lines that were judged apart
 pub takes_whole : (task : LinesTask) (bytes more given : List ℕ) (answers : List JudgedLine) (whole : WholeLinesValue) (old new : LineTellerValue) → HasTaken task bytes given old
     → AreWhole task.settings.depth more answers whole → length whole.bad ≤ whole.count → (lines at : ℕ)
@@ -161,6 +175,11 @@ gives task bytes given old new h lines good bad none =
       written = ap (λ (xs : List ℕ). (given ++ old.ready) ++ xs) none ∙ append-nil (given ++ old.ready) ∙ h.written;
     }
 
+pub gives_as : (task : LinesTask) (bytes given : List ℕ) (old new : LineTellerValue) (h : HasTaken task bytes given old) → new.lines ≡ old.lines → new.good ≡ old.good → new.bad ≡ old.bad → new.ready ≡ []
+    → HasTakenAs task bytes (given ++ old.ready) h.answers new
+unfolding gives
+gives_as task bytes given old new h lines good bad none = (gives task bytes given old new h lines good bad none, refl)
+
 -- before the first byte
 pub taken_none : (task : LinesTask) (t : LineTellerValue) → HasTold task.settings [] [] t.lines → t.good ≡ 0 → t.bad ≡ 0 → t.ready ≡ [] → HasTaken task [] [] t
 taken_none task t told good bad none = record { answers = []; told = told; good_are = good; bad_are = bad; written = none ∙ sym (nothing task.is_quiet) }
@@ -168,6 +187,10 @@ taken_none task t told good bad none = record { answers = []; told = told; good_
     nothing : (q : Bool) → shown_output q [] ≡ []
     nothing true = refl
     nothing false = refl
+
+pub taken_none_as : (task : LinesTask) (t : LineTellerValue) → HasTold task.settings [] [] t.lines → t.good ≡ 0 → t.bad ≡ 0 → t.ready ≡ [] → HasTakenAs task [] [] [] t
+unfolding taken_none
+taken_none_as task t told good bad none = (taken_none task t told good bad none, refl)
 
 -- ---- what is due
 

@@ -8,7 +8,6 @@ use Rattle.jx_ndjson.specs.Answers.{AreAnswers, IsAnswer}
 use Rattle.jx_ndjson.specs.Lines.{ended_lines}
 use Rattle.jx_ends.specs.declared.exit.Exit.{Exit}
 use Rattle.jx_ends.specs.declared.exit.Exit.TheVariants.{Good, Bad}
-use Rattle.jx_run.specs.declared.texts.verdict.Refusal.{Refusal}
 use Rattle.jx_run.specs.declared.texts.verdict.Refusal.TheVariants as of_text
 use Rattle.jx_words.specs.Verdicts.{shown_output}
 use Rattle.jx_words.specs.Words.{line, refusal_words, span_words}

@@ -1,10 +1,14 @@
 // Lines that are reported while an input comes slice by slice.
-ghost use Rattle.std.specs.Prelude.{◌≡◌, ◌+◌, ◌<◌, ◌≤◌, ◌^◌, ◌++◌, ℕ, List, [], false, if◌then◌else◌, length, map, take, IfOk, OnOk};
+ghost use Rattle.std.specs.Prelude.{◌≡◌, ◌+◌, ◌<◌, ◌≤◌, ◌^◌, ◌++◌, ℕ, List, [], false, if◌then◌else◌, length, map, take, IfNone, IfOk, IfSome, OnOk};
 ghost use Rattle.jx_ndjson.specs.declared.judged_line.JudgedLine.{JudgedLine};
+ghost use Rattle.jx_run.specs.declared.texts.settings.Settings.{Settings};
+ghost use Rattle.jx_run.specs.Tree.{span};
+ghost use Rattle.jx_ndjson.specs.Answers.{AreAnswers};
+ghost use Rattle.jx_ndjson.specs.Reading.{HasTold, listed};
 ghost use Rattle.jx_ndjson.specs.WholeLines.{AreWhole, moved_line};
 ghost use Rattle.jx_words.specs.Verdicts.{shown_output};
 ghost use Rattle.jx_ndjson_report.specs.Output.{bad_lines, bad_of, is_bad, is_good, total_words};
-ghost use Rattle.jx_ndjson_report.specs.inside.LineTeller.{HasTaken};
+ghost use Rattle.jx_ndjson_report.specs.inside.LineTeller.{HasTaken, HasTakenAs};
 ghost use Rattle.jx_ndjson_report.specs.inside.Shared.{IsShared};
 ghost use Rattle.jx_ndjson_report.specs.inside.LineSteps.{bad_line, exit_by};
 
@@ -14,7 +18,9 @@ use crate::teller::Teller;
 use crate::words::{add_counts, add_line, is_bad, is_good};
 use jx_ends::Exit;
 use jx_lex::{Depth, Span};
-use jx_ndjson::{JudgedLine, LineReader, WholeLines, ended_lines_of_a_reader, texts_in_front};
+use jx_ndjson::{
+    JudgedLine, LineReader, Step, WholeLines, ended_lines_of_a_reader, texts_in_front,
+};
 use std::alloc::{AllocError, Global};
 use std::marker::Model;
 
@@ -117,6 +123,10 @@ impl LineTeller {
     /// One that has taken no byte. Nothing is allocated.
     pub fn new(alloc: Global, task: &LinesTask) -> LineTeller
         ensures taken { HasTaken task.now [] [] result }
+        ensures told { HasTold task.now.settings [] [] result.lines }
+        ensures start { result.lines.reader.start + result.lines.reader.count ≡ 0 }
+        ensures good { result.good ≡ 0 }
+        ensures bad { result.bad ≡ 0 }
         ensures ready { result.ready ≡ [] }
     {
         LineTeller {
@@ -181,6 +191,55 @@ impl LineTeller {
         Ok(texts.len())
     }
 
+    /// How many bytes of the line that goes on it has taken.
+    pub fn open_len(&self) -> usize
+        ensures { result ≡ self.now.lines.reader.count }
+    {
+        self.lines.open_len()
+    }
+
+    /// The last line, where no line feed ends it, if the input ends here.
+    pub fn last_line(&self) -> Option<JudgedLine>
+        ensures told { (settings : Settings) (input : List ℕ) (told : List JudgedLine) → HasTold settings input told self.now.lines → AreAnswers settings input (told ++ listed result) }
+        ensures none { IfNone result (self.now.lines.reader.count ≡ 0) }
+        ensures span { IfSome result (λ judged. judged.span ≡ span self.now.lines.reader.start (self.now.lines.reader.start + self.now.lines.reader.count)) }
+    {
+        self.lines.last_line()
+    }
+
+    /// Lets the report that waits go.
+    pub fn clear(&mut self)
+        ensures lines { self.new.lines ≡ self.old.lines }
+        ensures good { self.new.good ≡ self.old.good }
+        ensures bad { self.new.bad ≡ self.old.bad }
+        ensures ready { self.new.ready ≡ [] }
+    {
+        self.ready.clear();
+    }
+
+    /// Takes a slice up to and with its first line feed, or less, and answers how many bytes those are and which line they
+    /// end.
+    pub fn read_line(&mut self, task: &LinesTask, slice: &[u8]) -> Result<Step, AllocError>
+        requires fits { self.old.lines.reader.start + self.old.lines.reader.count + length slice.now < 2 ^ 64 }
+        ensures within { IfOk result (λ step. step.taken ≤ length slice.now) }
+        ensures some { IfOk result (λ step. 0 < length slice.now → 0 < step.taken) }
+        ensures taken { IfOk result (λ step. (bytes given : List ℕ) (before : HasTaken task.now bytes given self.old)
+            → HasTakenAs task.now (bytes ++ take step.taken slice.now) given (before.answers ++ listed step.line) self.new) }
+        ensures count { IfOk result (λ step. self.new.lines.reader.start + self.new.lines.reader.count ≡ self.old.lines.reader.start + self.old.lines.reader.count + step.taken) }
+        ensures goes_on_there { IfOk result (λ step. 0 < self.new.lines.reader.count → self.new.lines.reader.start ≡ self.old.lines.reader.start) }
+        ensures spans { IfOk result (λ step. IfSome step.line (λ judged. (judged.span.start ≡ self.old.lines.reader.start)
+            × (judged.span.end + 1 ≡ self.old.lines.reader.start + self.old.lines.reader.count + step.taken))) }
+    {
+        let step = self.lines.feed(slice)?;
+        match step.line {
+            None => Ok(step),
+            Some(judged) => {
+                self.tell(task, judged)?;
+                Ok(step)
+            }
+        }
+    }
+
     /// Takes a slice up to and with its first line feed, or less, and answers how many bytes those are.
     fn take_line(&mut self, task: &LinesTask, slice: &[u8]) -> Result<usize, AllocError>
         requires fits { self.old.lines.reader.start + self.old.lines.reader.count + length slice.now < 2 ^ 64 }
@@ -189,14 +248,8 @@ impl LineTeller {
         ensures taken { IfOk result (λ taken. (bytes given : List ℕ) → HasTaken task.now bytes given self.old → HasTaken task.now (bytes ++ take taken slice.now) given self.new) }
         ensures count { IfOk result (λ taken. self.new.lines.reader.start + self.new.lines.reader.count ≡ self.old.lines.reader.start + self.old.lines.reader.count + taken) }
     {
-        let step = self.lines.feed(slice)?;
-        match step.line {
-            None => Ok(step.taken),
-            Some(judged) => {
-                self.tell(task, judged)?;
-                Ok(step.taken)
-            }
-        }
+        let step = self.read_line(task, slice)?;
+        Ok(step.taken)
     }
 
     /// Takes lines in front of a slice that are texts, and what follows them up to and with the next line feed, or

@@ -17,7 +17,7 @@ use std::sync::Wait;
 use std::thread::Threads;
 
 /// How many bytes are read at a time, at most. So few lines wait at once, also where each one is reported.
-const STEP: usize = 64 * 1024;
+pub(crate) const STEP: usize = 64 * 1024;
 
 /// The same where several workers share them.
 const SHARED_STEP: usize = 2 * 1024 * 1024;

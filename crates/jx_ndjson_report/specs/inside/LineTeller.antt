@@ -21,3 +21,7 @@ pub record HasTaken (task : LinesTask) (bytes given : List ℕ) (t : LineTellerV
   pub good_are : t.good ≡ length (good_of answers)
   pub bad_are : t.bad ≡ length (bad_of task.blanks answers)
   pub written : given ++ t.ready ≡ bad_lines task answers
+
+-- the same, and these are the answers on the lines that ended
+abbrev pub HasTakenAs : LinesTask → List ℕ → List ℕ → List JudgedLine → LineTellerValue → Type 0
+HasTakenAs task bytes given answers t = (taken : HasTaken task bytes given t) × (taken.answers ≡ answers)
