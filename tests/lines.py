@@ -205,6 +205,19 @@ def wanted_of(text, depth, skips, ignores):
     return output + "accepted %d, refused %d\n" % (good, bad), int(bad > 0)
 
 
+def passed_of(text, depth, ignores):
+    """The accepted lines as they stand there, each with the line feed that ends it."""
+    at = 3 if ignores and text.startswith(MARK) else 0
+    parts = text[at:].split(b"\n")
+    passed = b""
+    for place, part in enumerate(parts):
+        ended = place + 1 < len(parts)
+        if verdict(part, at, depth, ended, ignores) == "accepted":
+            passed += part + b"\n" * ended
+        at += len(part) + 1
+    return passed
+
+
 def wanted_of_sequence(text, depth, ignores):
     """The lines for the elements of a text sequence (RFC 7464, section 2)."""
     output, status, at = "", 0, 0
@@ -276,6 +289,9 @@ def randomly():
         same("%s of %r" % (words, text), (output.encode(), b"", status), told_of(words, text, chance))
         if chance.random() < 0.2:
             same("-q %s of %r" % (words, text), (b"", b"", status), told_of([*words, "-q"], text, chance))
+        if chance.random() < 0.5:
+            passed = passed_of(text, depth, ignores)
+            same("--pass %s of %r" % (words, text), (passed, output.encode(), status), told_of([*words, "--pass"], text, chance))
 
 
 def random_sequences():
@@ -312,6 +328,22 @@ def in_slices():
         same("cut at %s" % cuts, (output.encode(), status), (got, child.returncode))
 
 
+def passed_in_slices():
+    """The same of what passes."""
+    text = MARK + b'12\r\n\n"a\xc3\xa9"\n[1,x\ntrue \n[null]'
+    output, status = wanted_of(text, 512, False, True)
+    for cuts in [[cut] for cut in range(len(text))] + [list(range(len(text)))]:
+        child = subprocess.Popen([PROGRAM, "lines", "--pass", "--ignore-bom"], stdin=subprocess.PIPE, stdout=subprocess.PIPE, stderr=subprocess.PIPE)
+        start = 0
+        for cut in [*cuts, len(text)]:
+            child.stdin.write(text[start:cut])
+            child.stdin.flush()
+            time.sleep(0.005 if len(cuts) == 1 else 0.002)
+            start = cut
+        got, told = child.communicate()
+        same("passed, cut at %s" % cuts, (b'12\r\n"a\xc3\xa9"\ntrue \n[null]', output.encode(), status), (got, told, child.returncode))
+
+
 def sequences_in_slices():
     """The same of a sequence."""
     text = MARK + b'\x1e12\n\x1e\x1e"a\xc3\xa9"\n\x1e[1,x\x1etrue \x1enull'
@@ -334,6 +366,9 @@ def long_lines():
     text = b"[" + b"1 , " * 100000 + b"2]\n" + b'"' + b"x" * 200000 + b"\n" + b"".join(b"%d\n" % n for n in range(40000)) + b"x\n" * 40000 + b"[" * 600 + b"\n3"
     output, status = wanted_of(text, 512, False, False)
     same("long lines", (output.encode(), b"", status), told_of([], text, chance))
+    pathlib.Path("report").unlink(missing_ok=True)
+    same("long lines pass", (passed_of(text, 512, False), b"", status), told_of(["--pass", "--bad", "report"], text, chance))
+    same("the report on long lines", output.encode(), pathlib.Path("report").read_bytes())
     text = text.replace(b"\n", b"\x1e")
     output, status = wanted_of_sequence(text, 512, False)
     same("long elements", (output.encode(), b"", status), told_of(["--live"], text, chance, "seq"))
@@ -367,6 +402,7 @@ randomly()
 by_workers()
 random_sequences()
 in_slices()
+passed_in_slices()
 sequences_in_slices()
 long_lines()
 counts.ended()

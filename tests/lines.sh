@@ -113,6 +113,51 @@ several_files_have_each_line_behind_their_name() {
     same '--file' "$(all 'status 1' 'out: 2 2..3 stopped at 2' 'out: accepted 1, refused 1')" "$(said '' lines --file a)"
 }
 
+accepted_lines_pass() {
+    same 'beside the report' "$(all 'status 1' 'out: 1' 'out: [2]' 'err: 2 2..5 truncated' 'err: accepted 2, refused 1')" "$(said '1\n[1,\n[2]\n' lines --pass)"
+    same 'all' "$(all 'status 0' 'out: 1' 'out: 2' 'err: accepted 2, refused 0')" "$(said '1\n2\n' lines --pass)"
+    same 'none' "$(all 'status 1' 'err: 1 0..1 stopped at 0' 'err: accepted 0, refused 1')" "$(said 'x\n' lines --pass)"
+    same 'no line' "$(all 'status 0' 'err: accepted 0, refused 0')" "$(said '' lines --pass)"
+    same 'each byte stays, and no line feed is added' '1 \r\n\t[ 2 ]' "$(printf '1 \r\nx\n\t[ 2 ]' | "$program" lines --pass 2>/dev/null | sed -z 's/\r/\\r/g; s/\n/\\n/g; s/\t/\\t/g')"
+    same 'a last line that may be cut' "$(all 'status 1' 'out: 1' 'err: 2 2..4 may be cut' 'err: accepted 1, refused 1')" "$(said '1\n23' lines --pass)"
+    same 'empty lines' "$(all 'status 0' 'out: 1' 'out: 2' 'err: accepted 2, refused 0')" "$(said '\n1\n \r\n2\n' lines --pass --skip-blank)"
+    same 'empty lines that are refused' "$(all 'status 1' 'out: 1' 'err: 1 0..0 blank' 'err: accepted 1, refused 1')" "$(said '\n1\n' lines --pass)"
+    same 'a mark in front' "$(all 'status 0' 'out: 1' 'err: accepted 1, refused 0')" "$(said '\357\273\2771\n' lines --pass --ignore-bom)"
+    same 'a depth' "$(all 'status 1' 'out: []' 'err: 1 0..4 too deep at 1' 'err: accepted 1, refused 1')" "$(said '[[]]\n[]\n' lines --pass --depth 1)"
+    same 'objects' "$(all 'status 1' 'out: 1' 'err: {"name":"-","line":2,"column":1,"start":2,"end":3,"offset":2,"verdict":"stopped"}' 'err: {"name":"-","accepted":1,"refused":1}')" \
+        "$(said '1\nx\n' lines --pass --format json)"
+    printf '1\nx\n' >one
+    printf '[2]' >two
+    same 'several files' "$(all 'status 1' 'out: 1' 'out: [2]' 'err: one: 2 2..3 stopped at 2' 'err: one: accepted 1, refused 1' 'err: two: accepted 1, refused 0')" "$(said '' lines --pass one two)"
+    same 'and one that is missing' "$(all 'status 2' 'out: 1' 'err: jx: missing: cannot open: No such file or directory' 'err: one: 2 2..3 stopped at 2' 'err: one: accepted 1, refused 1')" \
+        "$(said '' lines --pass missing one)"
+    has 'quiet' "error: the argument '--pass' cannot be used with '--quiet'" "$(said '' lines --pass -q)"
+    has 'a list' "error: the argument '--pass' cannot be used with '--list'" "$(said '' lines --pass -l)"
+}
+
+a_report_is_appended_to_a_file() {
+    rm -f report
+    same 'a new one' "$(all 'status 1' 'out: 1')" "$(said '1\nx\n' lines --pass --bad report)"
+    same 'the lines that do not pass' "$(all '2 2..3 stopped at 2' 'accepted 1, refused 1')" "$(cat report)"
+    same 'of several files' "$(all 'status 1' 'out: 1' 'out: [2]')" "$(said '' lines --pass --bad report one two)"
+    same 'behind what it has' "$(all '2 2..3 stopped at 2' 'accepted 1, refused 1' 'one: 2 2..3 stopped at 2' 'one: accepted 1, refused 1' 'two: accepted 1, refused 0')" "$(cat report)"
+    has 'for --pass alone' '--pass' "$(said '' lines --bad report)"
+    same 'one that does not open' "$(all 'status 2' 'err: jx: no/report: cannot open: No such file or directory')" "$(said '1\n' lines --pass --bad no/report)"
+    same 'nor for the next file' "$(all 'status 2' 'err: jx: no/report: cannot open: No such file or directory')" "$(said '' lines --pass --bad no/report one two)"
+    if [ -w /dev/full ]; then
+        same 'a full device' "$(all 'status 2' 'out: 1' 'err: jx: /dev/full: write failed: No space left on device')" "$(said '1\nx\n' lines --pass --bad /dev/full)"
+        same 'a full device for the lines' "$(all 'jx: write failed: No space left on device' 'status 2')" "$(printf '1\n' | "$program" lines --pass 2>&1 >/dev/full; echo "status $?")"
+    fi
+    rm -f report
+}
+
+# A line passes before the input ends.
+lines_pass_while_the_input_is_read() {
+    local first
+    first=$( (printf '1\nx\n[2'; sleep 2; printf ']\n') | "$program" lines --pass 2>told | (IFS= read -r -t 1.5 line && echo "$line"; sleep 0.3; cat told; cat >/dev/null))
+    same 'a line before the input ends, and the report' "$(all 1 '2 2..3 stopped at 2')" "$first"
+}
+
 # A line is told before the input ends.
 lines_are_told_while_the_input_is_read() {
     local first
@@ -147,6 +192,9 @@ a_closed_pipe_ends_it_without_a_word() {
     same 'a reader that goes away' 'status 2, told: ' "status $status, told: $(cat err)"
     status=$( (trap '' PIPE; "$program" lines bad bad 2>err; echo $? >status) | head -c 1 >/dev/null; cat status)
     same 'a reader of several that goes away' 'status 2, told: ' "status $status, told: $(cat err)"
+    yes 1 | head -n 200000 >good
+    status=$( (trap '' PIPE; "$program" lines --pass good 2>err; echo $? >status) | head -c 1 >/dev/null; cat status)
+    same 'a reader of lines that pass' 'status 2, told: ' "status $status, told: $(cat err)"
 }
 
 tests lines_are_told_as_an_independent_reader_has_them \
@@ -156,6 +204,9 @@ tests lines_are_told_as_an_independent_reader_has_them \
     several_files_have_each_line_behind_their_name \
     editors_and_machines_have_each_line_in_their_form \
     files_with_refused_lines_are_listed \
+    accepted_lines_pass \
+    a_report_is_appended_to_a_file \
+    lines_pass_while_the_input_is_read \
     lines_are_told_while_the_input_is_read \
     what_cannot_be_read_or_written \
     a_closed_pipe_ends_it_without_a_word

@@ -37,6 +37,12 @@ pub enum Fault {
     /// A write of the output failed, for this reason.
     #[error("jx: write failed{0}\n")]
     Write(&'static str),
+    /// A write to the file of this name failed, for this reason.
+    #[error("jx: {0}: write failed{1}\n")]
+    WriteTo(String, &'static str),
+    /// A report has nowhere to go. That was reported already, or cannot be.
+    #[error("")]
+    ReportLost,
     #[error("{0}\n")]
     Parts(PartsFault),
     /// A run is to be written to a terminal.

@@ -5,8 +5,9 @@ use crate::fault::Fault;
 use crate::input::{Reader, fault_of_report, name_of, open, told_of};
 use crate::listing::write_name;
 use crate::output::{Output, Writer};
+use crate::passed_lines::pass_input;
 use crate::shared_file::{report_on_lines, share};
-use jx_command::{Input, Inputs, LinesOrder, LiveOrder, Told, input_of};
+use jx_command::{Input, Inputs, LinesOrder, LiveOrder, PassOrder, Told, input_of};
 use jx_crew::{Crew, OpenGate, Workers};
 use jx_ends::{End, ReportFault};
 use jx_explain::object_front;
@@ -28,8 +29,9 @@ enum Asked<'a> {
 
 /// The same with what stands in front of each line that is written.
 #[derive(Drop)]
-enum Task {
+enum Task<'a> {
     Lines(LinesTask),
+    Passed(LinesTask, PassOrder<'a>),
     Elements(ElementsTask),
 }
 
@@ -90,9 +92,12 @@ fn elements_task(order: &LiveOrder<'_>, front: Vec<u8>) -> ElementsTask {
     }
 }
 
-fn task_of(asked: &Asked<'_>, front: Vec<u8>) -> Task {
+fn task_of<'a>(asked: &Asked<'a>, front: Vec<u8>) -> Task<'a> {
     match asked {
-        Asked::Lines(order) => Task::Lines(lines_task(order, front)),
+        Asked::Lines(order) => match order.pass {
+            None => Task::Lines(lines_task(order, front)),
+            Some(pass) => Task::Passed(lines_task(order, front), pass),
+        },
         Asked::Elements(order) => Task::Elements(elements_task(order, front)),
     }
 }
@@ -104,7 +109,7 @@ fn tell_from<R: Threads + Wait + Sync>(
     input: Input<'_>,
     reader: Reader<'_>,
     writer: &mut Writer,
-    task: &Task,
+    task: &Task<'_>,
     piece: usize,
 ) -> Result<Status, Fault>
     requires reader { reader.failed ≡ false }
@@ -114,6 +119,7 @@ fn tell_from<R: Threads + Wait + Sync>(
     let mut reader = reader;
     let told = match task {
         Task::Lines(task) => report_lines(crew, &mut reader, writer, task, piece),
+        Task::Passed(task, pass) => return pass_input(rt, input, &mut reader, writer, task, *pass),
         Task::Elements(task) => report_sequence(crew, &mut reader, writer, task),
     };
     match told {
@@ -129,7 +135,7 @@ fn tell_shared<R: Threads + Wait + Sync>(
     input: Input<'_>,
     reader: Reader<'_>,
     writer: &mut Writer,
-    task: &Task,
+    task: &Task<'_>,
     piece: usize,
 ) -> Result<Status, Fault>
     requires reader { reader.failed ≡ false }
@@ -160,7 +166,7 @@ fn tell_input<R: Threads + Wait + Sync>(
     crew: &Crew<'_, R, OpenGate>,
     input: Input<'_>,
     writer: &mut Writer,
-    task: &Task,
+    task: &Task<'_>,
     piece: usize,
 ) -> Result<Status, Fault>
     requires writer { writer.old.failed ≡ false }

@@ -19,6 +19,7 @@ mod look_faults;
 mod misplaced;
 mod output;
 mod parts;
+mod passed_lines;
 mod places;
 mod progress;
 mod reporting;

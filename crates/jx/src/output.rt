@@ -1,13 +1,22 @@
-// Standard output.
+// What is written to.
 use crate::fault::Fault;
 use jx_ends::{End, write_whole};
+use std::fs::File;
 use std::io;
-use std::io::{Stdout, Write};
+use std::io::{Stderr, Stdout, Write};
 
-/// Standard output, whether its reader has gone, and the words for why the last write failed, if it failed.
+/// Where bytes go.
+#[derive(Drop)]
+enum Outlet {
+    Standard(Stdout),
+    Errors(Stderr),
+    File(File),
+}
+
+/// An output, whether its reader has gone, and the words for why the last write failed, if it failed.
 #[derive(Drop)]
 pub struct Output {
-    stdout: Stdout,
+    outlet: Outlet,
     pub is_closed: bool,
     pub why: &'static str,
 }
@@ -25,19 +34,37 @@ pub fn reason_of(error: &io::Error) -> &'static str {
 }
 
 impl Output {
-    /// Standard output, to which nothing was written.
-    pub fn of(rt: &HostRuntime) -> Output {
+    fn to(outlet: Outlet) -> Output {
         Output {
-            stdout: rt.stdout(),
+            outlet,
             is_closed: false,
             why: "",
         }
+    }
+
+    /// Standard output, to which nothing was written.
+    pub fn of(rt: &HostRuntime) -> Output {
+        Output::to(Outlet::Standard(rt.stdout()))
+    }
+
+    /// Standard error.
+    pub fn of_errors(rt: &HostRuntime) -> Output {
+        Output::to(Outlet::Errors(rt.stderr()))
+    }
+
+    /// A file that is open for writing.
+    pub fn of_file(file: File) -> Output {
+        Output::to(Outlet::File(file))
     }
 }
 
 impl Write for Output {
     fn write(&mut self, buf: &[u8]) -> io::Result<usize> {
-        let result = self.stdout.write(buf);
+        let result = match &mut self.outlet {
+            Outlet::Standard(stdout) => stdout.write(buf),
+            Outlet::Errors(stderr) => stderr.write(buf),
+            Outlet::File(file) => file.write(buf),
+        };
         if let Err(error) = &result {
             self.is_closed = matches!(error.kind(), io::ErrorKind::BrokenPipe);
             self.why = reason_of(error);
@@ -46,7 +73,11 @@ impl Write for Output {
     }
 
     fn flush(&mut self) -> io::Result<()> {
-        self.stdout.flush()
+        match &mut self.outlet {
+            Outlet::Standard(stdout) => stdout.flush(),
+            Outlet::Errors(stderr) => stderr.flush(),
+            Outlet::File(file) => file.flush(),
+        }
     }
 }
 

@@ -190,6 +190,8 @@ const LINES: CommandRow = CommandRow {
         option::SKIP_BLANK,
         option::WITH_FILENAME,
         option::QUIET,
+        option::PASS,
+        option::BAD,
         ArgRow {
             long_help: help::LONG_LIST_OF_LINES,
             ..option::LIST

@@ -219,6 +219,19 @@ pub const LONG_SKIP_BLANK: &str = "Skip lines that have no byte, or white space 
 numbered; lines does not count them, and get writes a line without
 values and reports nothing. Without this option each is refused.";
 
+pub const PASS: &str = "Write the accepted lines, and report the others";
+
+pub const LONG_PASS: &str = "Write each line that is a JSON text as it stands there, with its line
+feed, once that is read. The report is as below, and goes to standard
+error. A last line without a line feed gets none. Empty lines never
+pass, nor does a byte order mark that is ignored. One worker reads.";
+
+pub const BAD: &str = "Append the report of --pass to FILE";
+
+pub const LONG_BAD: &str = "Append the report of --pass to FILE, which is made where there is
+none, and not to standard error. Where a line or its report cannot be
+written, no more is read.";
+
 pub const PROGRESS: &str = "Show progress: auto, always or never";
 
 pub const LONG_PROGRESS: &str =
@@ -539,7 +552,8 @@ Examples:
   jx lines log.jsonl
   jx lines -H --format gnu log.jsonl
   tail -n +1 -F log.jsonl | jx lines
-  jx lines --skip-blank --quiet log.jsonl && echo whole";
+  jx lines --skip-blank --quiet log.jsonl && echo whole
+  tail -n +1 -F log.jsonl | jx lines --pass --bad refused.txt | ship";
 
 pub const AFTER_SAVE: &str =
     "Output, the index of the text, to be kept beside it: of each chunk of the

@@ -4,11 +4,22 @@ ghost use Rattle.std.specs.Prelude.{◌≤◌, IfOk};
 use crate::arg_fault::ArgFault;
 use crate::arguments::{format_of, inputs_named, mark_of, piece_of, words_of};
 use crate::options::depth_of;
-use crate::order::LinesOrder;
+use crate::order::{LinesOrder, PassOrder};
 use clap::ArgMatches;
 use jx_crew::Workers;
 use jx_run::{NameRule, Settings};
 use std::alloc::Global;
+
+/// How the accepted lines pass by the options, if they do.
+fn pass_from<'a>(options: &ArgMatches<'a>) -> Option<PassOrder<'a>> {
+    if options.get_flag("pass") {
+        Some(PassOrder {
+            report: options.get_str("bad"),
+        })
+    } else {
+        None
+    }
+}
 
 /// What its options ask for. The grammar has a number for each option that the words leave out, so that what stands here
 /// where there is none is never met.
@@ -31,5 +42,6 @@ pub(crate) fn lines_order_from<'a>(
         skips_blanks: options.get_flag("skip_blank"),
         is_quiet: options.get_flag("quiet") || options.get_flag("list"),
         told: format_of(options),
+        pass: pass_from(options),
     })
 }

@@ -231,6 +231,25 @@ pub(crate) const SKIP_BLANK: ArgRow = ArgRow {
     ..FLAG
 };
 
+pub(crate) const PASS: ArgRow = ArgRow {
+    id: "pass",
+    long: Some("pass"),
+    help: help::PASS,
+    long_help: help::LONG_PASS,
+    conflicts: &["quiet", "list"],
+    ..FLAG
+};
+
+pub(crate) const BAD: ArgRow = ArgRow {
+    id: "bad",
+    long: Some("bad"),
+    takes: Takes::Word("FILE"),
+    help: help::BAD,
+    long_help: help::LONG_BAD,
+    needs: &["pass"],
+    ..FLAG
+};
+
 /// The same where lines are answered beside whole texts.
 pub(crate) const SKIP_BLANK_BY_LINE: ArgRow = ArgRow {
     needs: &["by_line"],

@@ -112,6 +112,15 @@ pub struct LinesOrder<'a> {
     pub is_quiet: bool,
     /// The format of a report on a line, or on an input that has refused ones.
     pub told: Told,
+    /// How the accepted lines pass through. None where the report alone is written.
+    pub pass: Option<PassOrder<'a>>,
+}
+
+/// Lines that pass through, beside the report on the others.
+#[derive(Clone, Copy, Debug, PartialEq, Eq)]
+pub struct PassOrder<'a> {
+    /// FILE to which the report is appended. None where it goes to standard error.
+    pub report: Option<&'a str>,
 }
 
 /// Elements of text sequences, which are reported while they are read.

@@ -1,7 +1,7 @@
 // All that an order asks for, in one line.
 use jx_command::{
-    ByLine, EachOrder, Input, Inputs, LinesOrder, LiveOrder, Order, PartsOrder, PartsStep, Request,
-    SaveOrder, ShowProgress, SplitOrder, TellAccepted, Told, ValuesOrder,
+    ByLine, EachOrder, Input, Inputs, LinesOrder, LiveOrder, Order, PartsOrder, PartsStep,
+    PassOrder, Request, SaveOrder, ShowProgress, SplitOrder, TellAccepted, Told, ValuesOrder,
 };
 use jx_crew::Workers;
 use jx_run::Settings;
@@ -134,6 +134,18 @@ fn push_lines(out: &mut Out, order: &LinesOrder) {
     }
     push_inputs(out, &order.inputs);
     push_told(out, order.told);
+    push_pass(out, order.pass);
+}
+
+/// Writes where the report goes while lines pass, and nothing where none pass.
+fn push_pass(out: &mut Out, pass: Option<PassOrder>) {
+    let Some(pass) = pass else {
+        return;
+    };
+    out.push_str("; pass");
+    if let Some(report) = pass.report {
+        push_file(out, ", report to ", report);
+    }
 }
 
 fn push_live(out: &mut Out, order: &LiveOrder) {
