@@ -11,7 +11,7 @@ _jx() {
         esac
     done
     case $before in
-    --file | --index | --pointers)
+    --bad | --file | --index | --pointers)
         compopt -o filenames 2>/dev/null
         mapfile -t COMPREPLY < <(compgen -f -- "$word")
         return
@@ -49,7 +49,7 @@ _jx() {
     get) mapfile -t COMPREPLY < <(compgen -W '-f --file --depth --workers --piece --ignore-bom --unique-names --pointers -c --compact -r --raw --lines --skip-blank --index -h --help' -- "$word") ;;
     each) mapfile -t COMPREPLY < <(compgen -W '--names -f --file --depth --workers --piece --ignore-bom --progress -h --help' -- "$word") ;;
     seq) mapfile -t COMPREPLY < <(compgen -W '-f --file --depth --workers --piece --ignore-bom --unique-names --live -H --with-filename -q --quiet -h --help' -- "$word") ;;
-    lines) mapfile -t COMPREPLY < <(compgen -W '-f --file --depth --workers --piece --ignore-bom --skip-blank -H --with-filename -q --quiet -l --list --format -h --help' -- "$word") ;;
+    lines) mapfile -t COMPREPLY < <(compgen -W '-f --file --depth --workers --piece --ignore-bom --skip-blank -H --with-filename -q --quiet --pass --bad -l --list --format -h --help' -- "$word") ;;
     save) mapfile -t COMPREPLY < <(compgen -W '-f --file --depth --chunk --names --ignore-bom --unique-names --progress -h --help' -- "$word") ;;
     split) mapfile -t COMPREPLY < <(compgen -W '--index -f --file --parts -h --help' -- "$word") ;;
     part) mapfile -t COMPREPLY < <(compgen -W '-f --file --from --depth -h --help' -- "$word") ;;

@@ -38,6 +38,8 @@ complete -c jx -n '__fish_seen_subcommand_from get' -l lines -d 'Answer each lin
 complete -c jx -n '__fish_seen_subcommand_from get lines' -l skip-blank -d 'Skip empty lines'
 complete -c jx -n '__fish_seen_subcommand_from each' -l names -d 'Write names too, of the members of an object'
 complete -c jx -n '__fish_seen_subcommand_from seq' -l live -d 'Report each element as soon as it ends'
+complete -c jx -n '__fish_seen_subcommand_from lines' -l pass -d 'Write the accepted lines, and report the others'
+complete -c jx -n '__fish_seen_subcommand_from lines' -l bad -r -F -d 'Append the report of --pass to FILE'
 complete -c jx -n '__fish_seen_subcommand_from save' -l chunk -x -d 'Keep an entry for each N bytes'
 complete -c jx -n '__fish_seen_subcommand_from save' -l names -d 'Write tables of names too'
 complete -c jx -n '__fish_seen_subcommand_from split' -s f -l file -r -F -d 'Read the text in FILE'
