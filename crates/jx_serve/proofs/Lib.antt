@@ -12,3 +12,5 @@ pub mod Sounds
 pub mod Uniques
 pub mod Opens
 pub mod Texts
+pub mod Characters
+pub mod Ranges

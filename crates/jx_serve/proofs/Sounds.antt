@@ -280,13 +280,17 @@ natural_number (b ∷ bs) h = pick (b == 0x30) refl h
         let to : b ≤ 0x39 = grind (arith, nat_tests) in
         int_number (b ∷ bs) (leading (record { from = from; to = to }) (plain_digits bs t.1))
 
-pub plain_by : (bytes inside : List ℕ) (last : ℕ) → last ≡ length bytes - 1 → 0 < last → get_or bytes 0 0 ≡ 0x22 → get_or bytes last 0 ≡ 0x22 → inside ≡ slice_range bytes 1 last → are_plain inside ≡ true
-    → IsPlain bytes
-plain_by [] inside last e more f l i p = absurd (omega (arith, e, more))
-plain_by (b ∷ bs) inside zero e more f l i p = absurd (omega (arith, more))
-plain_by (b ∷ bs) inside (suc k) e more f l i p =
+-- what stands between quotation marks at both ends
+pub quoted_by : (bytes inside : List ℕ) (last : ℕ) → last ≡ length bytes - 1 → 0 < last → get_or bytes 0 0 ≡ 0x22 → get_or bytes last 0 ≡ 0x22 → inside ≡ slice_range bytes 1 last
+    → bytes ≡ 0x22 ∷ (inside ++ (0x22 ∷ []))
+quoted_by [] inside last e more f l i = absurd (omega (arith, e, more))
+quoted_by (b ∷ bs) inside zero e more f l i = absurd (omega (arith, more))
+quoted_by (b ∷ bs) inside (suc k) e more f l i =
     let n : suc k - 1 ≡ k = omega arith in
     let is : inside ≡ take k bs = i ∙ ap (λ (m : ℕ). take m bs) n in
     let low : k < length bs = omega (arith, e) in
     let end : drop k bs ≡ 0x22 ∷ [] = drop_more bs k 0 low ∙ ap (λ (x : ℕ). x ∷ drop (k + 1) bs) l ∙ ap (λ (xs : List ℕ). 0x22 ∷ xs) (drop_all (k + 1) bs (omega (arith, e))) in
-    (inside, (p, ap (λ (x : ℕ). x ∷ bs) f ∙ ap (λ (xs : List ℕ). 0x22 ∷ xs) (sym (take-append-drop k bs) ∙ ap (λ (xs : List ℕ). xs ++ drop k bs) (sym is) ∙ ap (λ (xs : List ℕ). inside ++ xs) end)))
+    ap (λ (x : ℕ). x ∷ bs) f ∙ ap (λ (xs : List ℕ). 0x22 ∷ xs) (sym (take-append-drop k bs) ∙ ap (λ (xs : List ℕ). xs ++ drop k bs) (sym is) ∙ ap (λ (xs : List ℕ). inside ++ xs) end)
+
+pub plain_by : (bytes inside : List ℕ) → bytes ≡ 0x22 ∷ (inside ++ (0x22 ∷ [])) → are_plain inside ≡ true → IsPlain bytes
+plain_by bytes inside e p = (inside, (p, e))

@@ -8,7 +8,7 @@ use Rattle.jx_run.specs.Grammar.{no_blanks}
 use Rattle.jx_run.specs.declared.texts.verdict.Verdict.TheVariants.{Accepted}
 use Rattle.jx_index.specs.ByNames.{IsVerdictBy, a_text}
 use Rattle.jx_serve.specs.Messages.{message_settings}
-use Rattle.jx_serve.specs.inside.Sound.{AreItems, AreMembers, IsValue, IsWhole, IsHead, IsList, IsBegun, IsPlain, IsPlainValue, AreDistinct, AddsHead, AddsNamed, AddsString, AreOpen, closings, is_natural, list_head}
+use Rattle.jx_serve.specs.inside.Sound.{AreItems, AreMembers, IsValue, IsWhole, IsHead, IsList, IsBegun, IsAString, IsPlain, IsPlainValue, AreDistinct, AddsHead, AddsNamed, AddsString, AreOpen, closings, is_natural, list_head}
 use Rattle.jx_serve.proofs.Sounds.{a_string, a_number, members_end, members_on, an_object, an_array, decimal_plain, distinct_by, natural_number, no_items, plain_string}
 use Rattle.jx_serve.proofs.Opens.{all_closed}
 use Rattle.jx_serve.proofs.Uniques.{never_repeated}
@@ -90,18 +90,18 @@ with_list id list rest p v =
     (members_on 511 (codes "result" ∷ []) (codes "\"id\"") (codes "id") (id ++ (codes ",\"result\":[" ++ list)) (codes "\"result\":[" ++ list) _ (plain_string (codes "id") refl) (a_plain_value 511 id _ p)
     (members_end 511 (codes "\"result\"") (codes "result") (codes "[" ++ list) _ (plain_string (codes "result") refl) v)))
 
-pub list_answer : (id bytes : List ℕ) (none : Bool) → IsPlainValue id → IsBegun ((codes "{\"jsonrpc\":\"2.0\",\"id\":" ++ id) ++ codes ",\"result\":[") 201 none bytes
+pub list_answer : (id bytes : List ℕ) (limit : ℕ) (none : Bool) → limit ≤ 510 → IsPlainValue id → IsBegun ((codes "{\"jsonrpc\":\"2.0\",\"id\":" ++ id) ++ codes ",\"result\":[") limit none bytes
     → IsWhole 512 (bytes ++ codes "]}")
-list_answer id bytes true p e rest =
+list_answer id bytes limit true low p e rest =
     let head : List ℕ = (codes "{\"jsonrpc\":\"2.0\",\"id\":" ++ id) ++ codes ",\"result\":[" in
     let parts : codes "{\"jsonrpc\":\"2.0\",\"id\":" ++ (id ++ (codes ",\"result\":[" ++ (codes "]}" ++ rest))) ≡ (bytes ++ codes "]}") ++ rest =
     sym (ap (λ (b : List ℕ). (b ++ codes "]}") ++ rest) e ∙ simp append_assoc refl) in
     subst (λ (b : List ℕ). IsValue 512 b rest) parts (with_list id (codes "]}" ++ rest) rest p (no_items 510 (0x7d ∷ rest)))
-list_answer id bytes false p b rest =
+list_answer id bytes limit false low p b rest =
     let parts : codes "{\"jsonrpc\":\"2.0\",\"id\":" ++ (id ++ (codes ",\"result\":[" ++ (b.0 ++ (codes "]}" ++ rest)))) ≡ (bytes ++ codes "]}") ++ rest =
     sym (ap (λ (x : List ℕ). (x ++ codes "]}") ++ rest) b.1.0 ∙ simp append_assoc refl) in
     subst (λ (x : List ℕ). IsValue 512 x rest) parts
-    (with_list id (b.0 ++ (codes "]}" ++ rest)) rest p (an_array 510 (b.0 ++ (codes "]}" ++ rest)) (0x7d ∷ rest) (raised 201 510 _ _ (omega arith) (b.1.1 (codes "]}" ++ rest) (codes "]}" ++ rest) (inl refl)))))
+    (with_list id (b.0 ++ (codes "]}" ++ rest)) rest p (an_array 510 (b.0 ++ (codes "]}" ++ rest)) (0x7d ∷ rest) (raised limit 510 _ _ low (b.1.1 (codes "]}" ++ rest) (codes "]}" ++ rest) (inl refl)))))
 
 -- ---- what is added
 
@@ -111,6 +111,9 @@ on_ok (Err e) p = tt
 
 pub added_plain : (before after spelt : List ℕ) → IsPlain spelt → after ≡ before ++ spelt → AddsString before after
 added_plain before after spelt p e = record { name = spelt; units = p.0; is_string = subst (λ (w : List ℕ). IsString w p.0) (sym p.1.1) (plain_string p.0 p.1.0); whole = e }
+
+pub added_string : (before after spelt : List ℕ) → IsAString spelt → after ≡ before ++ spelt → AddsString before after
+added_string before after spelt s e = record { name = spelt; units = s.0; is_string = s.1; whole = e }
 
 pub added_root : (before after : List ℕ) → after ≡ before ++ codes "\"root\"" → AddsString before after
 added_root before after e = record { name = codes "\"root\""; units = codes "root"; is_string = plain_string (codes "root") refl; whole = e }
@@ -155,7 +158,7 @@ pub answered : (id bytes ended after : List ℕ) (n : ℕ) → IsPlainValue id �
 answered id bytes ended after n p o e a =
     let x = all_closed (list_head id) n bytes o in
     let whole : n - 0 ≡ n = omega arith in
-    subst (λ (b : List ℕ). IsWhole 512 b) (sym (a ∙ ap (λ (b : List ℕ). b ++ codes "]}") (e ∙ ap (λ (k : ℕ). bytes ++ closings k) whole))) (list_answer id (bytes ++ closings n) x.0 p x.1)
+    subst (λ (b : List ℕ). IsWhole 512 b) (sym (a ∙ ap (λ (b : List ℕ). b ++ codes "]}") (e ∙ ap (λ (k : ℕ). bytes ++ closings k) whole))) (list_answer id (bytes ++ closings n) 201 x.0 (omega arith) p x.1)
 
 pub headed : (o one two three id : List ℕ) → one ≡ o ++ codes "{\"jsonrpc\":\"2.0\",\"id\":" → two ≡ one ++ id → three ≡ two ++ codes ",\"result\":[" → three ≡ o ++ list_head id
 headed o one two three id a b c = c ∙ ap (λ l. l ++ codes ",\"result\":[") (b ∙ ap (λ l. l ++ id) a) ∙ simp append_assoc refl

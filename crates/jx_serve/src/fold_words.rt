@@ -1,6 +1,10 @@
 // Lines of a document that can be folded, in messages.
+ghost use Rattle.std.specs.Prelude.{◌≡◌, [], true, IfOk, OnOk};
+ghost use Rattle.jx_serve.specs.inside.Sound.{AddsValue, IsWhole};
+
+use crate::plain::is_plain_value;
 use crate::symbols::{Outline, Symbol};
-use crate::value_words::{add_number, begin_list};
+use crate::value_words::{add_comma, add_number, begin_list};
 use jx_lex::Kind;
 use std::alloc::AllocError;
 
@@ -18,29 +22,28 @@ fn lines_of(symbol: &Symbol) -> Option<(usize, usize)> {
     }
 }
 
-/// Adds lines as a `FoldingRange`, after others or as the first.
-fn add_fold(
-    out: &mut Vec<u8>,
-    is_first: bool,
-    first: usize,
-    last: usize,
-) -> Result<(), AllocError> {
-    if !is_first {
-        out.extend_from_slice(b",")?;
-    }
+/// Adds lines as a `FoldingRange`.
+fn add_fold(out: &mut Vec<u8>, first: usize, last: usize) -> Result<(), AllocError>
+    ensures { OnOk result (AddsValue 510 out.old.items out.new.items) }
+{
     out.extend_from_slice(b"{\"startLine\":")?;
     add_number(out, first)?;
     out.extend_from_slice(b",\"endLine\":")?;
     add_number(out, last)?;
-    out.extend_from_slice(b"}")
+    out.extend_from_slice(b"}")?;
+    Ok(())
 }
 
-/// Adds the answer that lists which lines can be folded. Of containers that begin in one line only the outermost is listed.
+/// Adds the answer that lists which lines can be folded. Of containers that begin in one line only the outermost is listed. Returns
+/// whether it is known to be a JSON text that repeats no name.
 pub(crate) fn add_folded(
     out: &mut Vec<u8>,
     id: &[u8],
     outline: &Outline,
-) -> Result<(), AllocError> {
+) -> Result<bool, AllocError>
+    requires { out.old.items ≡ [] }
+    ensures { IfOk result (λ known. known ≡ true → IsWhole 512 out.new.items) }
+{
     begin_list(out, id)?;
     let mut told = None;
     for symbol in outline.symbols.iter() {
@@ -48,9 +51,11 @@ pub(crate) fn add_folded(
             continue;
         };
         if told != Some(first) {
-            add_fold(out, told.is_none(), first, last)?;
+            add_comma(out, told.is_none())?;
+            add_fold(out, first, last)?;
             told = Some(first);
         }
     }
-    out.extend_from_slice(b"]}")
+    out.extend_from_slice(b"]}")?;
+    Ok(is_plain_value(id))
 }

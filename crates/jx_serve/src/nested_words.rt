@@ -1,8 +1,8 @@
 // Values of a document in each other, in messages.
-ghost use Rattle.std.specs.Prelude.{◌≡◌, ◌≤◌, ◌<◌, ◌-◌, ◌++◌, ◌&&◌, ℕ, List, [], true, IfOk, IfSome, OnOk, length, take};
+ghost use Rattle.std.specs.Prelude.{◌≡◌, ◌≤◌, ◌<◌, ◌-◌, ◌++◌, ℕ, List, [], true, IfOk, IfSome, OnOk, length, take};
 ghost use Rattle.jx_serve.specs.inside.Sound.{back, closings, AddsHead, AreOpen, IsWhole};
 
-use crate::plain::is_plain_value;
+use crate::plain::{both, is_plain_value};
 use crate::symbol_words::add_named;
 use crate::symbols::{Outline, Symbol};
 use crate::value_words::{add_ends, begin_list};
@@ -97,13 +97,6 @@ fn add_next(
     let known = begin_symbol(alloc, out, text, symbol)?;
     levels.push(number)?;
     Ok(known)
-}
-
-/// Whether both hold.
-fn both(one: bool, other: bool) -> bool
-    ensures { result ≡ one && other }
-{
-    one && other
 }
 
 /// Adds the answer that lists values in each other. What is deeper than 100 levels is left out. Returns whether it is known to be a

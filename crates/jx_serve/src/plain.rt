@@ -1,6 +1,8 @@
 // Bytes that are known to be JSON without being read.
-ghost use Rattle.std.specs.Prelude.{◌≡◌, true, IfSome};
-ghost use Rattle.jx_serve.specs.inside.Sound.{are_digits, are_plain, is_digit, is_natural, is_plain, IsPlain, IsPlainValue};
+ghost use Rattle.std.specs.Prelude.{◌≡◌, ◌∷◌, ◌++◌, ◌&&◌, [], true, IfSome, IsUtf8};
+ghost use Rattle.jx_serve.specs.inside.Sound.{are_digits, are_ordinary, are_plain, is_digit, is_natural, is_ordinary, is_plain, IsAString, IsPlain, IsPlainValue};
+
+use std::str;
 
 /// Whether a byte is ASCII that stands for itself in a string.
 fn is_plain(byte: u8) -> bool
@@ -16,20 +18,68 @@ fn are_plain(bytes: &[u8]) -> bool
     bytes.iter().all(|byte| is_plain(*byte))
 }
 
-/// What a string has between its quotation marks, where it has no other characters; none where the bytes are no such string.
-pub(crate) fn plain_inside(bytes: &[u8]) -> Option<&[u8]>
-    ensures { IfSome result (λ inside. IsPlain bytes.now) }
+/// What stands between quotation marks at both ends of some bytes; none where they are not there.
+fn between_quotes(bytes: &[u8]) -> Option<&[u8]>
+    ensures { IfSome result (λ inside. bytes.now ≡ 0x22 ∷ (inside.now ++ (0x22 ∷ []))) }
 {
     let last = bytes.len().saturating_sub(1);
     if last == 0 || bytes[0] != b'"' || bytes[last] != b'"' {
         return None;
     }
-    let inside = &bytes[1..last];
+    Some(&bytes[1..last])
+}
+
+/// What a string has between its quotation marks, where it has no other characters; none where the bytes are no such string.
+pub(crate) fn plain_inside(bytes: &[u8]) -> Option<&[u8]>
+    ensures { IfSome result (λ inside. IsPlain bytes.now) }
+{
+    let inside = between_quotes(bytes)?;
     if are_plain(inside) {
         Some(inside)
     } else {
         None
     }
+}
+
+/// Whether a byte may stand for itself in a string, alone or in a character.
+fn is_ordinary(byte: u8) -> bool
+    ensures { result ≡ is_ordinary byte }
+{
+    0x20 <= byte && byte != b'"' && byte != b'\\'
+}
+
+/// Whether all bytes are.
+fn are_ordinary(bytes: &[u8]) -> bool
+    ensures { result ≡ are_ordinary bytes.now }
+{
+    bytes.iter().all(|byte| is_ordinary(*byte))
+}
+
+/// Whether bytes are text in UTF-8.
+fn is_utf8(bytes: &[u8]) -> bool
+    ensures { result ≡ true → IsUtf8 bytes.now }
+{
+    match str::from_utf8(bytes) {
+        Ok(_) => true,
+        Err(_) => false,
+    }
+}
+
+/// Whether bytes are a string in which each character stands for itself.
+pub(crate) fn is_unescaped_string(bytes: &[u8]) -> bool
+    ensures { result ≡ true → IsAString bytes.now }
+{
+    match between_quotes(bytes) {
+        None => false,
+        Some(inside) => are_ordinary(inside) && is_utf8(inside),
+    }
+}
+
+/// Whether both hold.
+pub(crate) fn both(one: bool, other: bool) -> bool
+    ensures { result ≡ one && other }
+{
+    one && other
 }
 
 fn is_digit(byte: u8) -> bool

@@ -254,23 +254,15 @@ fn add_logged(out: &mut Vec<u8>, trouble: Trouble) -> Result<(), AllocError>
     )
 }
 
+/// Adds the message of a reply that is no list of values.
 fn add_reply(alloc: Global, out: &mut Vec<u8>, reply: &Reply) -> Result<(), AllocError>
     requires { out.old.items ≡ [] }
     ensures { OnOk result (IsMessageOf reply.now out.new.items) }
 {
     match reply {
-        Reply::Nothing => Ok(()),
         Reply::Initialized { id, utf8 } => add_initialized(out, id, *utf8),
         Reply::Null { id } => add_null(out, id),
         Reply::Hovered { id, hover } => add_hovered(alloc, out, id, hover),
-        Reply::Outlined {
-            id,
-            uri,
-            outline,
-            ..
-        } => add_outlined(alloc, out, id, uri, outline),
-        Reply::Folded { id, outline } => add_folded(out, id, outline),
-        Reply::Selected { id, selections } => add_selected(out, id, selections),
         Reply::Refused { id, code, refusal } => add_refused(alloc, out, id, *code, *refusal),
         Reply::Published { uri, version, mark } => add_published(alloc, out, uri, version, mark),
         Reply::PublishedLines {
@@ -280,6 +272,11 @@ fn add_reply(alloc: Global, out: &mut Vec<u8>, reply: &Reply) -> Result<(), Allo
         } => add_published_lines(alloc, out, uri, version, marks),
         Reply::Closed { uri } => add_published(alloc, out, uri, &None, &None),
         Reply::Logged { trouble } => add_logged(out, *trouble),
+        Reply::Nothing => Ok(()),
+        // Lists are added by `add_message`.
+        Reply::Outlined { .. } => Ok(()),
+        Reply::Folded { .. } => Ok(()),
+        Reply::Selected { .. } => Ok(()),
     }
 }
 
@@ -296,6 +293,14 @@ fn add_message(alloc: Global, out: &mut Vec<u8>, reply: &Reply) -> Result<bool, 
             outline,
             ..
         } => add_nested(alloc, out, id, outline),
+        Reply::Outlined {
+            id,
+            uri,
+            nested: false,
+            outline,
+        } => add_outlined(alloc, out, id, uri, outline),
+        Reply::Folded { id, outline } => add_folded(out, id, outline),
+        Reply::Selected { id, selections } => add_selected(out, id, selections),
         _ => {
             add_reply(alloc, out, reply)?;
             Ok(false)

@@ -18,7 +18,7 @@ pub struct Extent {
 }
 
 /// The most ranges that are listed around a place. A message has a container for each.
-const LEVELS: usize = 200;
+pub(crate) const LEVELS: usize = 200;
 
 /// A place of a document, and the innermost values, names and members that hold it, each with those in it after it.
 #[derive(Debug, Drop)]

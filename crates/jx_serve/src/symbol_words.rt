@@ -1,10 +1,10 @@
 // Values of a document as symbols, in messages.
-ghost use Rattle.std.specs.Prelude.{◌≡◌, true, IfOk, OnOk};
-ghost use Rattle.jx_serve.specs.inside.Sound.{is_natural, AddsNamed, AddsString};
+ghost use Rattle.std.specs.Prelude.{◌≡◌, [], true, IfOk, OnOk};
+ghost use Rattle.jx_serve.specs.inside.Sound.{is_natural, AddsNamed, AddsString, AddsValue, IsAString, IsPlainValue, IsWhole};
 
-use crate::plain::plain_inside;
+use crate::plain::{both, is_plain_value, is_unescaped_string, plain_inside};
 use crate::symbols::{Outline, Symbol};
-use crate::value_words::{add_all, add_number, add_range, begin_list};
+use crate::value_words::{add_comma, add_ends, add_number, begin_list};
 use jx_index::Row;
 use jx_lex::Kind;
 use jx_wire::{StringFault, quoted, unescaped};
@@ -52,6 +52,14 @@ fn shown_name(alloc: Global, spelt: &[u8]) -> Result<Vec<u8>, AllocError> {
     }
 }
 
+/// Adds a string, and returns whether it is known to be one.
+fn add_string(out: &mut Vec<u8>, string: &[u8]) -> Result<bool, AllocError>
+    ensures { IfOk result (λ known. known ≡ true → AddsString out.old.items out.new.items) }
+{
+    out.extend_from_slice(string)?;
+    Ok(is_unescaped_string(string))
+}
+
 /// Adds the name of a member as a string, and returns whether it is known to be one.
 fn add_member_name(alloc: Global, out: &mut Vec<u8>, spelt: &[u8]) -> Result<bool, AllocError>
     ensures { IfOk result (λ known. known ≡ true → AddsString out.old.items out.new.items) }
@@ -63,8 +71,7 @@ fn add_member_name(alloc: Global, out: &mut Vec<u8>, spelt: &[u8]) -> Result<boo
         }
         _ => {
             let name = shown_name(alloc, spelt)?;
-            out.extend_from_slice(&name)?;
-            Ok(false)
+            add_string(out, &name)
         }
     }
 }
@@ -116,34 +123,51 @@ pub(crate) fn add_named(
     Ok(known)
 }
 
-/// Adds a value as a `SymbolInformation`.
+/// Adds a value as a `SymbolInformation`. Returns whether its name is known to be a string.
 fn add_symbol(
     alloc: Global,
     out: &mut Vec<u8>,
     uri: &[u8],
     text: &[u8],
     symbol: &Symbol,
-) -> Result<(), AllocError> {
-    add_named(alloc, out, text, &symbol.row)?;
-    add_all(out, &[b"\"location\":{\"uri\":", uri, b","])?;
-    add_range(out, symbol.outer, symbol.end)?;
-    out.extend_from_slice(b"}}")
+) -> Result<bool, AllocError>
+    ensures { IfOk result (λ known. known ≡ true → IsAString uri.now → AddsValue 510 out.old.items out.new.items) }
+{
+    let known = add_named(alloc, out, text, &symbol.row)?;
+    out.extend_from_slice(b"\"location\":{\"uri\":")?;
+    out.extend_from_slice(uri)?;
+    out.extend_from_slice(b",\"range\":")?;
+    add_ends(out, symbol.outer, symbol.end)?;
+    out.extend_from_slice(b"}}")?;
+    Ok(known)
 }
 
-/// Adds the answer that lists values.
+/// Whether the id of a request and the name of a document are known to be JSON.
+fn are_known(id: &[u8], uri: &[u8]) -> bool
+    ensures id { result ≡ true → IsPlainValue id.now }
+    ensures uri { result ≡ true → IsAString uri.now }
+{
+    is_plain_value(id) && is_unescaped_string(uri)
+}
+
+/// Adds the answer that lists values. Returns whether it is known to be a JSON text that repeats no name.
 pub(crate) fn add_outlined(
     alloc: Global,
     out: &mut Vec<u8>,
     id: &[u8],
     uri: &[u8],
     outline: &Outline,
-) -> Result<(), AllocError> {
+) -> Result<bool, AllocError>
+    requires { out.old.items ≡ [] }
+    ensures { IfOk result (λ known. known ≡ true → IsWhole 512 out.new.items) }
+{
     begin_list(out, id)?;
+    let mut known = are_known(id, uri);
     for (number, symbol) in outline.symbols.iter().enumerate() {
-        if 0 < number {
-            out.extend_from_slice(b",")?;
-        }
-        add_symbol(alloc, out, uri, &outline.text, symbol)?;
+        add_comma(out, number == 0)?;
+        let is_known = add_symbol(alloc, out, uri, &outline.text, symbol)?;
+        known = both(known, is_known);
     }
-    out.extend_from_slice(b"]}")
+    out.extend_from_slice(b"]}")?;
+    Ok(known)
 }

@@ -3,7 +3,7 @@ ghost use Rattle.std.specs.Prelude.{◌≡◌, ◌++◌, ℕ, suc, OnOk, decimal
 ghost use Rattle.std.specs.List.{flat_map};
 ghost use Rattle.jx_lex.specs.Token.{IsNumber};
 ghost use Rattle.jx_serve.specs.Words.{ends, position as position_words, range};
-ghost use Rattle.jx_serve.specs.inside.Sound.{list_head, IsWhole};
+ghost use Rattle.jx_serve.specs.inside.Sound.{comma, list_head, IsWhole};
 
 use crate::hover::Hover;
 use itoa::Buffer;
@@ -57,7 +57,8 @@ pub(crate) fn add_ends(out: &mut Vec<u8>, start: Position, end: Position) -> Res
 
 /// Adds the member `range`.
 pub(crate) fn add_range(out: &mut Vec<u8>, start: Position, end: Position) -> Result<(), AllocError>
-    ensures { OnOk result (out.new.items ≡ out.old.items ++ range start end) }
+    ensures words { OnOk result (out.new.items ≡ out.old.items ++ range start end) }
+    ensures value { OnOk result ((limit : ℕ) → IsWhole (suc (suc limit)) (ends start end)) }
 {
     out.extend_from_slice(b"\"range\":")?;
     add_ends(out, start, end)
@@ -128,5 +129,15 @@ pub(crate) fn begin_list(out: &mut Vec<u8>, id: &[u8]) -> Result<(), AllocError>
     out.extend_from_slice(b"{\"jsonrpc\":\"2.0\",\"id\":")?;
     out.extend_from_slice(id)?;
     out.extend_from_slice(b",\"result\":[")?;
+    Ok(())
+}
+
+/// Adds the comma before an element, unless it is the first.
+pub(crate) fn add_comma(out: &mut Vec<u8>, is_first: bool) -> Result<(), AllocError>
+    ensures { OnOk result (out.new.items ≡ out.old.items ++ comma is_first) }
+{
+    if !is_first {
+        out.extend_from_slice(b",")?;
+    }
     Ok(())
 }

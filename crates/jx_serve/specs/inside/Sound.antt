@@ -74,7 +74,7 @@ AreItems limit bytes rest = (text : List ℕ) (i : ℕ) → drop i text ≡ byte
 abbrev pub AreMembers : ℕ → List (List ℕ) → List ℕ → List ℕ → Type 0
 AreMembers limit names bytes rest = (text : List ℕ) (i : ℕ) → drop i text ≡ bytes → HasMembers text limit names i bytes rest
 
--- ---- plain strings
+-- ---- strings that are known by their bytes
 
 -- ASCII that stands for itself in a string
 abbrev pub is_plain : ℕ → Bool
@@ -86,6 +86,17 @@ are_plain bytes = list_all is_plain bytes
 -- a string of nothing else
 abbrev pub IsPlain : List ℕ → Type 0
 IsPlain bytes = (inside : List ℕ) × ((are_plain inside ≡ true) × (bytes ≡ 0x22 ∷ (inside ++ (0x22 ∷ []))))
+
+-- a byte that may stand for itself in a string, alone or in a character
+abbrev pub is_ordinary : ℕ → Bool
+is_ordinary byte = nat_le 0x20 byte && not (byte == 0x22) && not (byte == 0x5c)
+
+abbrev pub are_ordinary : List ℕ → Bool
+are_ordinary bytes = list_all is_ordinary bytes
+
+-- a string
+abbrev pub IsAString : List ℕ → Type 0
+IsAString bytes = (units : List ℕ) × IsString bytes units
 
 abbrev pub is_digit : ℕ → Bool
 is_digit byte = nat_le 0x30 byte && nat_le byte 0x39
@@ -180,3 +191,26 @@ pub record AreOpen (head : List ℕ) (n : ℕ) (none : Bool) (bytes : List ℕ) 
   pub limit : ℕ
   pub deep : limit + 2 * n ≡ 201
   pub is_open : IsOpen head n limit none bytes
+
+-- ---- values in a list, one after another
+
+-- a value
+pub record AddsValue (limit : ℕ) (before after : List ℕ) : Type 0 where
+  pub value : List ℕ
+  pub is_value : IsWhole limit value
+  pub whole : after ≡ before ++ value
+
+-- ---- ranges in each other
+
+-- nothing, or a range that another one is in
+abbrev pub IsParent : ℕ → List ℕ → Type 0
+IsParent limit bytes = (bytes ≡ []) ⊎ ((value : List ℕ) × (IsWhole limit value × (bytes ≡ codes ",\"parent\":" ++ value)))
+
+-- so many objects end
+abbrev pub braces : ℕ → List ℕ
+braces zero = []
+braces (suc n) = 0x7d ∷ braces n
+
+-- so many ranges are open, each in front of the one that it is in: with such a one, or none, and their ends they are a value
+abbrev pub AreRanges : ℕ → List ℕ → List ℕ → Type 0
+AreRanges n before bytes = (limit : ℕ) (parent : List ℕ) → 2 ≤ limit → IsParent limit parent → AddsValue (limit + n) before ((bytes ++ parent) ++ braces n)
