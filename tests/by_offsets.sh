@@ -49,7 +49,7 @@ sequences() {
 1000 | 1100000 | - | object deep ended nothing | --depth 2
 1000 | 1100000 | - | long object number |
 4096 | 1500000 | - | object bad feeds ended |
-4096 | 1048576 | - | nothing |
+4096 | 1048600 | - | nothing |
 262144 | 3000000 | 1 | long number object |
 - | 5000000 | - | object ended feeds |
 - | 9000000 | - | long long object number |
@@ -78,7 +78,7 @@ json_lines() {
 1000 | 1100000 | mark | long object number | open | --ignore-bom
 1000 | 1048576 | mark | random | - | --ignore-bom
 4096 | 1500000 | - | object bad blank number cut | ended | --skip-blank
-4096 | 1048576 | - | nothing | ended |
+4096 | 1048600 | - | nothing | ended |
 4096 | 1048576 | - | random | - | --depth 1
 65536 | 1600000 | - | object | ended |
 262144 | 3000000 | mark | long number object control | open |

@@ -51,7 +51,7 @@ jx.1 | One worker reads the text, looks up fewer pointers, looks up by --index, 
 jx.1 | They share what one read gives, from a MiB on. | threads 4 - | text.20000000 | each --workers 4
 jx.1 | A regular FILE of a MiB or more is read by workers, each for itself. | threads 0 0 | lines.1048575 | lines --workers 4 -q
 jx.1 | A regular FILE of a MiB or more is read by workers, each for itself. | threads 4 - | lines.1200000 | lines --workers 4 -q
-jx.1 | What is due is written after 16 MiB at most, or 64 chunks of another size. | memory - 24000 | lines.40000000 | lines --workers 4
+jx.1 | What is due is written after 16 MiB at most, or 64 chunks of another size. | memory - 40000 | refused.120000000 | lines --workers 4
 jx.1 | A read of a pipe mostly gives less, and then one worker reads. | threads 0 0 | cat lines.20000000 | lines --workers 4 -q
 jx.1 | One worker reads, and no element is kept in memory. | threads 0 0 | seq.20000000 | seq --live
 jx.1 | One worker reads, and no element is kept in memory. | memory - 8000 | seq.20000000 | seq --live
@@ -116,9 +116,14 @@ CODE
 
 # make_inputs: the files that the lines name, each of so many bytes.
 make_inputs() {
-    claims | cut -d '|' -f 4 | grep -oE '(text|lines|seq)\.[0-9]+' | sort -u >inputs
+    claims | cut -d '|' -f 4 | grep -oE '(text|lines|refused|seq)\.[0-9]+' | sort -u >inputs
     python3 - <<'CODE'
-PARTS = {"text": (b"[1", b',"abcdefgh"', b"]"), "lines": (b"", b'{"n":1}\n', b""), "seq": (b"", b'\x1e{"n":1}\n', b"")}
+PARTS = {
+    "text": (b"[1", b',"abcdefgh"', b"]"),
+    "lines": (b"", b'{"n":1}\n', b""),
+    "refused": (b"", b'{"n":1}\n' * 15 + b"x\n", b""),
+    "seq": (b"", b'\x1e{"n":1}\n', b""),
+}
 for name in open("inputs").read().split():
     kind, size = name.split(".")
     front, each, end = PARTS[kind]

@@ -89,15 +89,15 @@ fn stop<K: Asked, W: Sink, E: Drop>(
     }
 }
 
-/// Lets the reader go on by a round, and writes the lines that wait then. Answers whether more bytes follow. After a read fault
-/// it writes those before it.
+/// Lets the reader go on by a round of at most so many chunks, and writes the lines that wait then. Answers whether more bytes
+/// follow, and sets how many chunks the next round has. After a read fault it writes the lines before it.
 fn tell_round<F: SharedAt + Sync, K: Asked + Send, W: Sink, R: Threads + Wait + Sync>(
     rt: &R,
     alloc: Global,
     file: &F,
     workers: Workers,
     buffer: &mut [u8],
-    count: usize,
+    count: &mut usize,
     rule: &PartRule,
     writer: &mut W,
     task: &LinesTask,
@@ -119,8 +119,9 @@ fn tell_round<F: SharedAt + Sync, K: Asked + Send, W: Sink, R: Threads + Wait + 
         → AfterFault task.now (F.content file.now) (F.may_fail file.now) written (W.contents writer.new) fault) }
 {
     ended_lines_of_a_reader();
-    match read_round(rt, alloc, file, workers, buffer, count, rule, reader) {
+    match read_round(rt, alloc, file, workers, buffer, *count, rule, reader) {
         Ok(more) => {
+            *count = next_count(*count, reader.is_full());
             write_waiting(alloc, writer, task, reader)?;
             Ok(more)
         }
@@ -157,12 +158,11 @@ fn tell_rounds<F: SharedAt + Sync, K: Asked + Send, W: Sink, R: Threads + Wait +
     let mut count = FIRST.saturating_mul(workers.count() as usize).min(MOST);
     for _ in rt.forever() {
         let more = tell_round(
-            rt, alloc, file, workers, buffer, count, rule, writer, task, reader,
+            rt, alloc, file, workers, buffer, &mut count, rule, writer, task, reader,
         )?;
         if !more {
             return Ok(());
         }
-        count = next_count(count, reader.is_full());
     }
     unreachable!()
 }
