@@ -129,6 +129,8 @@ accepted_lines_pass() {
     printf '1\nx\n' >one
     printf '[2]' >two
     same 'several files' "$(all 'status 1' 'out: 1' 'out: [2]' 'err: one: 2 2..3 stopped at 2' 'err: one: accepted 1, refused 1' 'err: two: accepted 1, refused 0')" "$(said '' lines --pass one two)"
+    same 'a line feed between files' "$(all 'status 1' 'out: [2]' 'out: 1' 'err: two: accepted 1, refused 0' 'err: one: 2 2..3 stopped at 2' 'err: one: accepted 1, refused 1')" \
+        "$(said '' lines --pass two one)"
     same 'and one that is missing' "$(all 'status 2' 'out: 1' 'err: jx: missing: cannot open: No such file or directory' 'err: one: 2 2..3 stopped at 2' 'err: one: accepted 1, refused 1')" \
         "$(said '' lines --pass missing one)"
     has 'quiet' "error: the argument '--pass' cannot be used with '--quiet'" "$(said '' lines --pass -q)"
@@ -142,6 +144,13 @@ a_report_is_appended_to_a_file() {
     same 'of several files' "$(all 'status 1' 'out: 1' 'out: [2]')" "$(said '' lines --pass --bad report one two)"
     same 'behind what it has' "$(all '2 2..3 stopped at 2' 'accepted 1, refused 1' 'one: 2 2..3 stopped at 2' 'one: accepted 1, refused 1' 'two: accepted 1, refused 0')" "$(cat report)"
     has 'for --pass alone' '--pass' "$(said '' lines --bad report)"
+    same 'the input itself' "$(all 'status 2' 'err: jx: one: the input is an output, too')" "$(said '' lines --pass --bad one one)"
+    ln -s one other
+    same 'by another name, among others' "$(all 'status 2' 'out: [2]' 'err: jx: one: the input is an output, too')" "$(said '' lines --pass --bad other one two)"
+    same 'standard input' 'jx: -: the input is an output, too, status 2' "$("$program" lines --pass --bad one <one 2>&1), status $?"
+    same 'the output' 'jx: one: the input is an output, too, status 2' "$("$program" lines --pass one 2>&1 >>one), status $?"
+    same 'each is as it was' "$(printf '1\nx')" "$(cat one)"
+    rm -f other
     same 'one that does not open' "$(all 'status 2' 'err: jx: no/report: cannot open: No such file or directory')" "$(said '1\n' lines --pass --bad no/report)"
     same 'nor for the next file' "$(all 'status 2' 'err: jx: no/report: cannot open: No such file or directory')" "$(said '' lines --pass --bad no/report one two)"
     if [ -w /dev/full ]; then
@@ -154,7 +163,7 @@ a_report_is_appended_to_a_file() {
 # A line passes before the input ends.
 lines_pass_while_the_input_is_read() {
     local first
-    first=$( (printf '1\nx\n[2'; sleep 2; printf ']\n') | "$program" lines --pass 2>told | (IFS= read -r -t 1.5 line && echo "$line"; sleep 0.3; cat told; cat >/dev/null))
+    first=$( (printf '1\nx\n[2'; sleep 6; printf ']\n') | "$program" lines --pass 2>told | (IFS= read -r -t 4 line && echo "$line"; sleep 0.5; cat told; cat >/dev/null))
     same 'a line before the input ends, and the report' "$(all 1 '2 2..3 stopped at 2')" "$first"
 }
 

@@ -37,9 +37,6 @@ pub enum Fault {
     /// A write of the output failed, for this reason.
     #[error("jx: write failed{0}\n")]
     Write(&'static str),
-    /// A write to the file of this name failed, for this reason.
-    #[error("jx: {0}: write failed{1}\n")]
-    WriteTo(String, &'static str),
     /// A report has nowhere to go. That was reported already, or cannot be.
     #[error("")]
     ReportLost,

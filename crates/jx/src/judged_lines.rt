@@ -5,7 +5,7 @@ use crate::fault::Fault;
 use crate::input::{Reader, fault_of_report, name_of, open, told_of};
 use crate::listing::write_name;
 use crate::output::{Output, Writer};
-use crate::passed_lines::pass_input;
+use crate::passed_lines::{end_line, pass_input};
 use crate::shared_file::{report_on_lines, share};
 use jx_command::{Input, Inputs, LinesOrder, LiveOrder, PassOrder, Told, input_of};
 use jx_crew::{Crew, OpenGate, Workers};
@@ -226,6 +226,11 @@ fn status_of(
     Err(fault)
 }
 
+/// Whether accepted lines pass.
+fn is_passed(task: &Task<'_>) -> bool {
+    matches!(task, Task::Passed(..))
+}
+
 /// Reports the lines or elements of what an argument names, each after the name as it is shown.
 fn tell_word<R: Threads + Wait + Sync>(
     rt: &HostRuntime,
@@ -242,6 +247,9 @@ fn tell_word<R: Threads + Wait + Sync>(
     let mut writer = End::new(Output::of(rt));
     let told = tell_input(rt, crew, input, &mut writer, &task, piece);
     let status = status_of(rt, input, told, writer.failed)?;
+    if is_passed(&task) && !writer.failed {
+        end_line(&mut writer)?;
+    }
     list(rt, way, input, status)
 }
 

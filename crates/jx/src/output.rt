@@ -13,10 +13,12 @@ enum Outlet {
     File(File),
 }
 
-/// An output, whether its reader has gone, and the words for why the last write failed, if it failed.
+/// An output, whether it ends a line or has none, whether its reader has gone, and the words for why the last write failed, if
+/// it failed.
 #[derive(Drop)]
 pub struct Output {
     outlet: Outlet,
+    pub ends_line: bool,
     pub is_closed: bool,
     pub why: &'static str,
 }
@@ -37,6 +39,7 @@ impl Output {
     fn to(outlet: Outlet) -> Output {
         Output {
             outlet,
+            ends_line: true,
             is_closed: false,
             why: "",
         }
@@ -65,9 +68,16 @@ impl Write for Output {
             Outlet::Errors(stderr) => stderr.write(buf),
             Outlet::File(file) => file.write(buf),
         };
-        if let Err(error) = &result {
-            self.is_closed = matches!(error.kind(), io::ErrorKind::BrokenPipe);
-            self.why = reason_of(error);
+        match &result {
+            Ok(count) => {
+                if *count > 0 {
+                    self.ends_line = matches!(buf.get(*count - 1), Some(b'\n'));
+                }
+            }
+            Err(error) => {
+                self.is_closed = matches!(error.kind(), io::ErrorKind::BrokenPipe);
+                self.why = reason_of(error);
+            }
         }
         result
     }

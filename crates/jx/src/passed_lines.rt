@@ -2,13 +2,51 @@
 ghost use Rattle.std.specs.Prelude.{◌≡◌, false, IfOk};
 
 use crate::fault::Fault;
-use crate::input::{Reader, fault_of_report, told_of};
-use crate::output::{Output, Writer};
+use crate::input::{Reader, fault_of_report, name_of, told_of};
+use crate::output::{Output, Writer, fault_of_write};
 use jx_command::{Input, PassOrder};
-use jx_ends::{End, ReportFault};
-use jx_files::{FileFault, Reason, Status};
+use jx_ends::{End, ReportFault, write_whole};
+use jx_files::{FileFault, Reason, Status, shown_name};
 use jx_ndjson_report::{LinesTask, pass_lines};
+use std::alloc::AllocError;
+use std::fs;
 use std::fs::File;
+use std::os::unix::fs::MetadataExt;
+
+/// Reports a fault of a file on standard error, after its name as it is shown.
+fn tell(rt: &HostRuntime, path: &str, words: &str, why: &str) -> Result<(), AllocError> {
+    let mut line = Vec::from_slice(rt.alloc(), b"jx: ")?;
+    line.extend_from_slice(&shown_name(rt.alloc(), path)?)?;
+    line.extend_from_slice(words.as_bytes())?;
+    line.extend_from_slice(why.as_bytes())?;
+    line.extend_from_slice(b"\n")?;
+    let _ = write_whole(&mut End::new(rt.stderr()), &line);
+    Ok(())
+}
+
+/// Whether two paths lead to one regular file.
+fn is_one_file(rt: &HostRuntime, one: &str, other: &str) -> bool {
+    match fs::metadata(rt, one) {
+        Ok(one) => match fs::metadata(rt, other) {
+            Ok(other) => one.is_file() && one.dev() == other.dev() && one.ino() == other.ino(),
+            Err(_) => false,
+        },
+        Err(_) => false,
+    }
+}
+
+/// Whether the input is the file of an output: each line that is written would be read as one more.
+fn is_output(rt: &HostRuntime, input: Input<'_>, pass: PassOrder<'_>) -> bool {
+    let path = match input {
+        Input::Standard => "/dev/stdin",
+        Input::File(path) => path,
+    };
+    let is_report = match pass.report {
+        Some(report) => is_one_file(rt, path, report),
+        None => false,
+    };
+    is_report || is_one_file(rt, path, "/dev/stdout")
+}
 
 /// What the report is written to: the end of FILE, which may be new, or standard error.
 fn report_of(rt: &HostRuntime, pass: PassOrder<'_>) -> Result<Writer, Fault>
@@ -26,12 +64,16 @@ fn report_of(rt: &HostRuntime, pass: PassOrder<'_>) -> Result<Writer, Fault>
     }
 }
 
-/// The fault of what the report is written to. On standard error nothing more is reported.
-fn fault_of_pass(rt: &HostRuntime, pass: PassOrder<'_>, report: &Writer) -> Result<Fault, Fault> {
-    match pass.report {
-        Some(path) => Ok(Fault::WriteTo(String::from_str(rt.alloc(), path)?, report.inner.why)),
-        None => Ok(Fault::ReportLost),
+/// The fault of what the report is written to. That of a file is reported; on standard error nothing more is.
+fn fault_of_pass(
+    rt: &HostRuntime,
+    pass: PassOrder<'_>,
+    report: &Writer,
+) -> Result<Fault, AllocError> {
+    if let Some(path) = pass.report {
+        tell(rt, path, ": write failed", report.inner.why)?;
     }
+    Ok(Fault::ReportLost)
 }
 
 /// Passes the accepted lines of an input, and reports the others.
@@ -46,10 +88,27 @@ pub fn pass_input(
     requires reader { reader.old.failed ≡ false }
     requires writer { writer.old.failed ≡ false }
 {
+    if is_output(rt, input, pass) {
+        tell(rt, name_of(input), ": the input is an output, too", "")?;
+        return Err(Fault::Told);
+    }
     let mut report = report_of(rt, pass)?;
     match pass_lines(rt.alloc(), reader, writer, &mut report, task) {
         Ok(exit) => Ok(Status::of_exit(exit)),
         Err(ReportFault::Write) if report.failed => Err(fault_of_pass(rt, pass, &report)?),
         Err(fault) => Err(fault_of_report(rt, input, reader, writer, fault)),
+    }
+}
+
+/// Ends the last line that was written, so that the next input begins a line of its own.
+pub fn end_line(writer: &mut Writer) -> Result<(), Fault>
+    requires writer { writer.old.failed ≡ false }
+{
+    if writer.inner.ends_line {
+        return Ok(());
+    }
+    match write_whole(writer, b"\n") {
+        Ok(()) => Ok(()),
+        Err(_) => Err(fault_of_write(writer)),
     }
 }

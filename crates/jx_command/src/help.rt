@@ -223,8 +223,9 @@ pub const PASS: &str = "Write the accepted lines, and report the others";
 
 pub const LONG_PASS: &str = "Write each line that is a JSON text as it stands there, with its line
 feed, once that is read. The report is as below, and goes to standard
-error. A last line without a line feed gets none. Empty lines never
-pass, nor does a byte order mark that is ignored. One worker reads.";
+error. A last line without a line feed gets one if several FILEs are
+named. Empty lines never pass, nor does a byte order mark that is
+ignored. One worker reads. An input that is an output too is refused.";
 
 pub const BAD: &str = "Append the report of --pass to FILE";
 
@@ -542,8 +543,10 @@ VERDICT is that of 'jx check', with offsets from the start of the input, or:
   may be cut              no line feed ends it, and its root is a number or a
                           literal with nothing after it
 
-A line is reported once its line feed is read, before more input is waited for.
-What was written stays, also where a read fails later. No line is kept.
+A line is reported once its line feed is read, before more input is waited for;
+of a FILE that several workers read, after 16 MiB at most. What was written
+stays, also where a read fails later. No line is kept in memory, but with
+--pass the one that is read.
 
 Exit status: 0 none is reported, 1 otherwise, 2 no answer; of several files the
 greatest.
