@@ -656,8 +656,8 @@ static inline uint32_t jx_save_new(const jx_settings *settings, size_t chunk, jx
 
 /* The same, with tables of the text's names after the index. By these a look-up needs only the chunks of an object that may have
  * the name. Without them it needs all chunks of the object. The answers are the same. The calls below speak of the index and mean
- * the tables too. A name takes at most four bytes of them. For 64 chunks with more than 131072 names no table is kept, so a look-up
- * there reads them as without.
+ * the tables too. A name takes at most four bytes of them. For 64 chunks with more than 4 * chunk names no table is kept, so a
+ * look-up there reads them as without.
  *
  * Allocates some 300 bytes, which jx_save_free frees. Returns what jx_save_new returns. */
 static inline uint32_t jx_save_new_with_names(const jx_settings *settings, size_t chunk, jx_save *save) {

@@ -86,7 +86,7 @@ def _stopped(named: List[str], end: bytes, rest: bytes) -> str:
 
 
 def _ended(named: List[str], end: bytes) -> str:
-    if named[0] in ("a character in UTF-8", 'one of " \\ / b f n r t u', "a hexadecimal digit") or named[0].startswith("a byte"):
+    if named and (named[0] in ("a character in UTF-8", 'one of " \\ / b f n r t u', "a hexadecimal digit") or named[0].startswith("a byte")):
         return "the text ends inside a string"
     literal = _literal(named, end)
     return "the text ends where %s%s is expected" % (_joined(named), literal and literal + ",")

@@ -164,7 +164,7 @@ fn literal(named: &[&str], front: &[u8]) -> &'static str {
     }
 }
 
-/// The first character, as a terminal may show it.
+/// The first character; a control character by its bytes.
 fn found(rest: &[u8]) -> String {
     let Some(chunk) = rest[..rest.len().min(4)].utf8_chunks().next() else {
         return String::new();
