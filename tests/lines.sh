@@ -145,11 +145,12 @@ a_report_is_appended_to_a_file() {
     same 'behind what it has' "$(all '2 2..3 stopped at 2' 'accepted 1, refused 1' 'one: 2 2..3 stopped at 2' 'one: accepted 1, refused 1' 'two: accepted 1, refused 0')" "$(cat report)"
     has 'for --pass alone' '--pass' "$(said '' lines --bad report)"
     same 'the input itself' "$(all 'status 2' 'err: jx: one: the input is an output, too')" "$(said '' lines --pass --bad one one)"
-    ln -s one other
-    same 'by another name, among others' "$(all 'status 2' 'out: [2]' 'err: jx: one: the input is an output, too')" "$(said '' lines --pass --bad other one two)"
     same 'standard input' 'jx: -: the input is an output, too, status 2' "$("$program" lines --pass --bad one <one 2>&1), status $?"
     same 'the output' 'jx: one: the input is an output, too, status 2' "$("$program" lines --pass one 2>&1 >>one), status $?"
-    same 'each is as it was' "$(printf '1\nx')" "$(cat one)"
+    same 'it is as it was' "$(printf '1\nx')" "$(cat one)"
+    ln -s one other
+    same 'by another name, among others' "$(all 'status 2' 'out: [2]' 'err: jx: one: the input is an output, too')" "$(said '' lines --pass --bad other one two)"
+    printf '1\nx\n' >one
     rm -f other
     same 'one that does not open' "$(all 'status 2' 'err: jx: no/report: cannot open: No such file or directory')" "$(said '1\n' lines --pass --bad no/report)"
     same 'nor for the next file' "$(all 'status 2' 'err: jx: no/report: cannot open: No such file or directory')" "$(said '' lines --pass --bad no/report one two)"
