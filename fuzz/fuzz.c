@@ -17,7 +17,7 @@ static const struct {
     {"pointers", look_up},            {"index", look_up_in_indexes}, {"elements", list_elements},            {"document", edit_documents},
     {"joins", join_runs},             {"forged runs", forge_runs},   {"any runs", take_any_runs},
     {"compact", compact_texts},       {"lines", feed_lines},         {"values", feed_values},
-    {"saved", find_in_saved},         {"forged saved", open_forged_saved},
+    {"saved", find_in_saved},         {"forged saved", open_forged_saved}, {"explain", explain_texts},
 };
 
 static const char *doing = "";

@@ -223,14 +223,14 @@ class Batch:
         verdict, rows = self.readers.read(text, settings)
         pointers = self.pointers(text, rows)
         is_compact, is_raw = self.dice.random() < 0.5, self.dice.random() < 0.5
-        output, told = b"", b"" if verdict.kind == 0 else b"jx: %s\n" % str(verdict).encode()
+        output, told = b"", b"" if verdict.kind == 0 else b"jx: %s: %s\n" % (name.encode(), str(verdict).encode())
         for pointer in pointers if verdict.kind == 0 else []:
             answer = self.readers.find(text, rows, verdict, pointer)
             value = text[answer.span.start : answer.span.end]
             written = text_of(value) if is_raw and value[:1] == b'"' else compact(value) if is_compact else value
             output += (written or b"") + b"\n"
             if answer.outcome != 0 or written is None:
-                told += b"jx: %s: %s\n" % (pointer, str(answer).encode() if answer.outcome != 0 else b"half a surrogate pair")
+                told += b"jx: %s: %s: %s\n" % (name.encode(), pointer, str(answer).encode() if answer.outcome != 0 else b"half a surrogate pair")
         words += ["-c"] * is_compact + ["-r"] * is_raw
         got = run(self.program, ["get", "--file", name, *words, *self.spelt(pointers)])
         self.held("get %s %r" % (" ".join(words), pointers), text, got, output, told == b"", told=told)
@@ -248,14 +248,14 @@ class Batch:
         words, settings = self.settings()
         chunk = self.dice.choice([64, 64, 128, 4096, 32768])
         verdict, _ = self.readers.read(text, settings)
-        output, told = b"", b"jx: %s\n" % str(verdict).encode()
+        output, told = b"", b"%s\n" % str(verdict).encode()
         if verdict.kind == 0:
             ignores, unique = settings.flags & plain.IGNORE_MARK > 0, settings.flags & plain.UNIQUE_NAMES > 0
             output, told = saved.index(text, settings.depth, ignores, chunk, unique), b""
         words += ["--chunk", str(chunk)]
         slices = cut(self.dice, text, 8)
-        for got in run(self.program, ["save", *words, name]), run_on_slices(self.program, ["save", *words], slices):
-            self.held("save %s" % " ".join(words), text, got, output, verdict.kind == 0, told=told)
+        for of, got in (name, run(self.program, ["save", *words, name])), ("-", run_on_slices(self.program, ["save", *words], slices)):
+            self.held("save %s" % " ".join(words), text, got, output, verdict.kind == 0, told=told and b"jx: %s: %s" % (of.encode(), told))
 
     def explain(self, name, text):
         """The place alone is held: sentences are for people."""
@@ -299,7 +299,11 @@ class Batch:
         sentences = [it.pop("sentence", None) for it in told]
         for (name, text), object, line in zip(files, wanted, told + [None] * len(files)):
             self.held("check --format json %s %s" % (" ".join(words), name), text, Run(repr(line).encode(), got.errors, got.status), repr({key: object[key] for key in line or object}), not refused)
-        marks = ["%s:%d:%d: %s (byte %d)\n" % (it["name"], it["line"], it["column"], sentence, it["offset"]) for it, sentence in zip(told, sentences) if sentence]
+        marks = []
+        for (name, text), it, sentence in zip(files, told, sentences):
+            if sentence:
+                column = it["offset"] - text.rfind(b"\n", 0, it["offset"])
+                marks.append("%s:%d:%d: %s (byte %d)\n" % (name, it["line"], column, sentence, it["offset"]))
         got = run(self.program, ["check", "--format", "gnu", *words, *names])
         self.held("check --format gnu %s" % " ".join(words), many, got, "".join(marks), not refused)
         got = run(self.program, ["check", "-l", *words, *names])

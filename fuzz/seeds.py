@@ -14,7 +14,7 @@ import texts
 
 ROOT = pathlib.Path(__file__).resolve().parent.parent
 # The targets, in the order of fuzz.c.
-TARGETS = ["check", "feed", "forged reader", "rows", "pointers", "index", "elements", "document", "joins", "forged runs", "any runs", "compact", "lines", "values", "saved", "forged saved"]
+TARGETS = ["check", "feed", "forged reader", "rows", "pointers", "index", "elements", "document", "joins", "forged runs", "any runs", "compact", "lines", "values", "saved", "forged saved", "explain"]
 ANY_RUNS = TARGETS.index("any runs")
 # Bits of the byte of settings (input.h).
 SHORT_OF_MEMORY, REPEATS, LARGE = 0x20, 0xC0, 0x10

@@ -1,4 +1,4 @@
-/* Checks whether bytes are a JSON text (RFC 8259), and at which byte they stop being one. Version 0.3.0.
+/* Checks whether bytes are a JSON text (RFC 8259), and at which byte they stop being one. Version 0.3.0. Begin with jx_check.
  *
  * Every call returns a status. Any status but JX_OK leaves the caller's structs unchanged, unless a call says more. Offsets and
  * sizes count bytes, depths count containers.
@@ -64,7 +64,8 @@ enum {
     JX_NOT_BEGUN = 32,      /* no such look-up or split was begun; or the text has ended, or has not */
     JX_READ_FAILED = 33,    /* jx_saved_find: the caller's read_at failed, or gave fewer bytes */
     JX_NO_SHELF = 34,       /* the struct holds no shelf, or the pointer to it is null */
-    JX_TAKEN = 35           /* another index stands on the shelf */
+    JX_TAKEN = 35,          /* another index stands on the shelf */
+    JX_NOT_REFUSED = 36     /* the verdict does not refuse a text */
 };
 
 /* The name of a status, as JX_NO_MEMORY; "?" of any other number. It is never freed. */
@@ -105,6 +106,7 @@ static inline const char *jx_status_name(uint32_t status) {
     case JX_READ_FAILED: return "JX_READ_FAILED";
     case JX_NO_SHELF: return "JX_NO_SHELF";
     case JX_TAKEN: return "JX_TAKEN";
+    case JX_NOT_REFUSED: return "JX_NOT_REFUSED";
     default: return "?";
     }
 }
@@ -166,6 +168,31 @@ uint32_t jx_check_non_null(const uint8_t *text, size_t size, const jx_settings *
  * */
 static inline uint32_t jx_check(const uint8_t *text, size_t size, const jx_settings *settings, jx_verdict *verdict) {
     return jx_check_non_null(text, size, jx_settings_or_default(settings), verdict);
+}
+
+/* Where a byte stands, for people. */
+typedef struct jx_place {
+    size_t line;   /* from 1; a line feed ends a line */
+    size_t column; /* the character in its line, from 1; each byte but 80 to BF begins one */
+} jx_place;
+
+uint32_t jx_explain_non_null(const uint8_t *text, size_t size, const jx_settings *settings, const jx_verdict *verdict,
+                             uint8_t *sentence, size_t room, size_t *sentence_size, jx_place *place);
+
+/* Says what is wrong with a refused text in a sentence, that of the program `jx explain`, as `expected a comma or ], found 2`.
+ * It is in English and in UTF-8; bytes of the text that are not printed are in it as \xHH. `verdict` is that of jx_check on the
+ * text by these settings. Of a line or an element pass its bytes alone, and the offset from its start.
+ *
+ * Writes as many bytes of the sentence as fit to `sentence`, and leaves the rest of it unchanged: no NUL ends the sentence, and a
+ * cut may split a character. Writes to `sentence_size` how many bytes the whole sentence has. A first call with room 0 says so;
+ * `sentence` must not be null in it. Writes to `place` where the byte at the offset stands, or the end of a text that is truncated.
+ *
+ * Reads the text up to the offset; all of it for a duplicate name. Allocates memory in proportion to the open containers and to
+ * the sentence, and for a duplicate name what jx_index_new does, and frees it. Returns JX_OK, JX_NO_MEMORY,
+ * JX_DEPTH_TOO_GREAT, JX_UNKNOWN_FLAG, JX_NOT_REFUSED, or JX_OUT_OF_BOUNDS for an offset above `size`. */
+static inline uint32_t jx_explain(const uint8_t *text, size_t size, const jx_settings *settings, const jx_verdict *verdict,
+                                  uint8_t *sentence, size_t room, size_t *sentence_size, jx_place *place) {
+    return jx_explain_non_null(text, size, jx_settings_or_default(settings), verdict, sentence, room, sentence_size, place);
 }
 
 uint32_t jx_compact_non_null(const uint8_t *text, size_t size, const jx_settings *settings, uint8_t *compact, size_t room,
@@ -358,9 +385,9 @@ static inline void jx_finder_free(jx_finder *finder) {
  * form of a value is its tokens one after another, without the white space between them (RFC 8259, section 2); each token keeps
  * its bytes. A string has no line feed (section 7), so each form is one line.
  *
- * A value is due once the comma or the bracket after it is read, before the first fault of the text: of "[1,2,3x" the values 1
- * and 2 are due, of "[1,2 " the value 1. What is due stays due, whatever comes after it, and is the same for all slices. Of a
- * text all values are due.
+ * A value is due once the comma or the bracket after it is read, before the first fault of the text. So of "[1,2,3x" the values
+ * 1 and 2 are due, and of "[1,2 " the value 1. What is due stays due, whatever comes after it, and is the same for all slices.
+ * Of a text all values are due.
  *
  * The struct is a handle, which the library alone writes. Set it to {0}, which holds no stream, before its first call. Free it
  * once. It may be moved, also to another thread. Do not use a copy of it after a call on another copy.
@@ -455,7 +482,7 @@ uint32_t jx_rows_non_null(const uint8_t *text, size_t size, const jx_settings *s
                           size_t *count, jx_verdict *verdict);
 
 /* Lists all values of a JSON text in the order of their starts. Writes as many rows as fit to `rows` and leaves the rest of
- * it unchanged; writes how many there are to `count`, 0 if the text is refused, also for a duplicate name. A first call with
+ * it unchanged. Writes how many there are to `count`, 0 if the text is refused, also for a duplicate name. A first call with
  * room 0 says how much room a second one needs; `rows` must not be null in either. Spans count the bytes of an ignored byte
  * order mark.
  *
@@ -778,8 +805,8 @@ static inline uint32_t jx_saved_about(jx_saved *saved, jx_saved_text *text) {
     return jx_saved_about_non_null(saved, text);
 }
 
-/* Begins a look-up of pointers (RFC 6901). The list, and the bytes of each pointer, must stay as they are until the look-up ends,
- * another look-up or a split begins, or the index is freed: the library keeps pointers to them.
+/* Begins a look-up of pointers (RFC 6901). The library keeps pointers to the list and to the bytes of each pointer. They must stay
+ * as they are until the look-up ends, another look-up or a split begins, or the index is freed.
  *
  * Allocates memory in proportion to the pointers, which the end of the look-up frees. After JX_NO_MEMORY what went on goes on.
  * Returns JX_OK, JX_NO_MEMORY, JX_NO_SAVED or JX_NULL_POINTER. */
@@ -792,8 +819,9 @@ static inline uint32_t jx_saved_seek(jx_saved *saved, const jx_pointer *pointers
 }
 
 /* Begins a split of an array or an object into `parts` parts, from 1 to JX_PARTS_MAX, by its span as a look-up gave it. Of another
- * span the parts are of no use. In a container a..b the child after a comma at c, or at a for the first one, stands in part
- * (c - a) * parts / (b - a), without the remainder. So the parts are the text's, whatever the size of a chunk.
+ * span the parts are of no use. Let c be the offset of the comma before a child of the container a..b, or a for the first child.
+ * Then the child is in part (c - a) * parts / (b - a), without the remainder. So the parts are the text's, whatever the size of a
+ * chunk.
  *
  * Allocates nothing. Returns JX_OK, JX_OUT_OF_BOUNDS for a span that is empty or ends after the text, or no such number of parts,
  * JX_NO_SAVED or JX_NULL_POINTER. */
@@ -922,9 +950,9 @@ uint32_t jx_elements_non_null(const uint8_t *sequence, size_t size, const jx_set
  * order mark that is alone before the first record separator; in an element one is refused. JX_UNIQUE_NAMES refuses an
  * element at its first duplicate name.
  *
- * Allocates memory in proportion to the count of elements and to the sizes of the first and the last one, with JX_UNIQUE_NAMES
- * also to the names of the objects that are open at once, and frees it. Returns JX_OK, JX_NO_MEMORY, JX_DEPTH_TOO_GREAT or
- * JX_UNKNOWN_FLAG. */
+ * Allocates memory in proportion to the count of elements and to the sizes of the first and the last one, and frees it. With
+ * JX_UNIQUE_NAMES it is in proportion to the names of the objects that are open at once, too. Returns JX_OK, JX_NO_MEMORY,
+ * JX_DEPTH_TOO_GREAT or JX_UNKNOWN_FLAG. */
 static inline uint32_t jx_elements(const uint8_t *sequence, size_t size, const jx_settings *settings, jx_element *elements,
                                    size_t room, size_t *count) {
     return jx_elements_non_null(sequence, size, jx_settings_or_default(settings), elements, room, count);
@@ -933,8 +961,8 @@ static inline uint32_t jx_elements(const uint8_t *sequence, size_t size, const j
 /* JSON Lines, also called NDJSON: bytes that line feeds cut into lines, each of which is to be a JSON text. They come slice by
  * slice, as they are read, and lines that are not valid JSON wait in the library until they are taken.
  *
- * A line is the bytes up to a line feed, the byte 0A, from the one before it on, so a carriage return at its end is white
- * space of its own (RFC 8259, section 2). The bytes after the last line feed are a line, too, unless there are none.
+ * A line is the bytes between two line feeds, the byte 0A, or before the first one. A carriage return at its end is white space
+ * of the line (RFC 8259, section 2). The bytes after the last line feed are a line, too, unless there are none.
  *
  * The struct is a handle, which the library alone writes. Set it to {0}, which holds no reader, before its first call. Free
  * it once. It may be moved, also to another thread. Do not use a copy of it after a call on another copy.
@@ -1027,8 +1055,7 @@ static inline void jx_lines_free(jx_lines *lines) {
  * the edit, not the whole text.
  *
  * The struct is a handle, which the library alone writes. Set it to {0}, which holds no document, before its first call.
- * Free it once. It may be moved, also to another thread. Do not use a copy of it after a call on another copy: a copy that is
- * used, or freed, once the document was freed leads to memory that is gone.
+ * Free it once. It may be moved, also to another thread. Do not use a copy of it after a call on another copy.
  *
  * Null pointers change nothing, and the status is JX_NO_DOCUMENT where `document` is null, else JX_NULL_POINTER. Settings may
  * be null, and so may bytes of the size 0. */
@@ -1106,7 +1133,7 @@ static inline void jx_document_free(jx_document *document) {
 }
 
 /* A text in parts, on many machines: each part is read by itself and gives a run, its result as bytes to be kept or sent. Runs
- * of neighbours are joined, in any order of joins, up to the run of the whole text, which has the verdict on it. A run has
+ * of neighbors are joined, in any order of joins, up to the run of the whole text, which has the verdict on it. A run has
  * a few KB for most parts. Its bytes are the same on every machine; docs/FORMAT.md says what they are.
  *
  * The bytes of a run are looked at before they are used: any bytes may be passed. A digest finds runs that were damaged. It
@@ -1123,8 +1150,8 @@ static inline void jx_document_free(jx_document *document) {
  * than `room` bytes is not written, and JX_NO_ROOM is returned: its size says how much room a second call needs. A byte
  * order mark is not ignored: leave it out of the first part, and let `from` count it.
  *
- * Allocates memory and frees it: some KB, and up to 720 bytes for each closing bracket whose container an earlier part opens, of
- * which a part has at most `depth` (48 MB with JX_DEPTH_MAX). Returns JX_OK, JX_NO_ROOM, JX_NO_MEMORY, JX_DEPTH_TOO_GREAT, or
+ * Allocates memory and frees it: some KB, and up to 720 bytes for each closing bracket whose container an earlier part opens. A
+ * part has at most `depth` of these, so 48 MB with JX_DEPTH_MAX. Returns JX_OK, JX_NO_ROOM, JX_NO_MEMORY, JX_DEPTH_TOO_GREAT, or
  * JX_TOO_MANY_BYTES for a part that would end at 2^64 or after it. */
 uint32_t jx_run_of(const uint8_t *part, size_t size, uint64_t from, uint32_t depth, uint8_t *run, size_t room, size_t *run_size);
 

@@ -1,36 +1,39 @@
 #!/usr/bin/env bash
 # What help, manual page and docs say of workers, memory and sizes. Each line names a page, its sentence, a call, and what the call
-# makes of it: how many threads, how much memory at its peak in KiB, how many bytes of output. So a sentence that is no longer so fails,
-# and so does one that has gone. With the word `sentences` it only looks whether they are there, which needs no program.
+# makes of it: how many threads, how much memory at its peak in KiB, how many bytes its reads gave, how many bytes of output. So a sentence
+# that is no longer so fails, and so does one that has gone. With the word `sentences` it only looks whether they are there, which needs no program.
 . "$(dirname "$0")/lib.sh"
 
 # PAGE | SENTENCE | WHAT LEAST MOST | INPUT | WORDS. A `-` has no bound; `auto` is one thread for each processor that may be used here. An
 # input is a text, lines or elements of so many bytes; behind `cat` it comes through a pipe.
 claims() {
     cat <<'LINES'
-README.md | Use N workers, auto or 1 to 64. Default: auto, of `each` 1. | threads auto auto | text.20000000 | check
-README.md | Use N workers, auto or 1 to 64. Default: auto, of `each` 1. | threads auto - | text.20000000 | explain
-README.md | Use N workers, auto or 1 to 64. Default: auto, of `each` 1. | threads auto - | text.1200000 | at --pointers many
-README.md | Use N workers, auto or 1 to 64. Default: auto, of `each` 1. | threads auto - | text.1200000 | get --pointers many
-README.md | Use N workers, auto or 1 to 64. Default: auto, of `each` 1. | threads auto - | seq.20000000 | seq -q
-README.md | Use N workers, auto or 1 to 64. Default: auto, of `each` 1. | threads auto auto | lines.1200000 | lines -q
-README.md | Use N workers, auto or 1 to 64. Default: auto, of `each` 1. | threads 0 0 | text.20000000 | each
+README.md | Use N workers, auto or 1 to 64. Default: auto, of `each`, `keys` and `count` 1. | threads auto auto | text.20000000 | check
+README.md | Use N workers, auto or 1 to 64. Default: auto, of `each`, `keys` and `count` 1. | threads auto - | text.20000000 | explain
+README.md | Use N workers, auto or 1 to 64. Default: auto, of `each`, `keys` and `count` 1. | threads auto - | text.1200000 | at --pointers many
+README.md | Use N workers, auto or 1 to 64. Default: auto, of `each`, `keys` and `count` 1. | threads auto - | text.1200000 | get --pointers many
+README.md | Use N workers, auto or 1 to 64. Default: auto, of `each`, `keys` and `count` 1. | threads auto - | seq.20000000 | seq -q
+README.md | Use N workers, auto or 1 to 64. Default: auto, of `each`, `keys` and `count` 1. | threads auto auto | lines.1200000 | lines -q
+README.md | Use N workers, auto or 1 to 64. Default: auto, of `each`, `keys` and `count` 1. | threads 0 0 | text.20000000 | each
 jx.1 | auto: one for each processor that jx may use, at most 16. | threads auto auto | text.20000000 | check --workers auto
 jx.1 | auto: one for each processor that jx may use, at most 16. | threads auto - | text.20000000 | each --workers auto
 README.md | an index to keep beside a text, 0.075 % of its size | output 14800 15200 | text.20000000 | save
 jx.1 | Of one FILE each worker reads chunks of 256 KiB for itself, and one alone the first MiB. | threads 0 0 | text.1000000 | check --workers 4
 jx.1 | Of one FILE each worker reads chunks of 256 KiB for itself, and one alone the first MiB. | threads 1 - | text.20000000 | check --workers 4
+jx.1 | Of one FILE each worker reads chunks of 256 KiB for itself, and one alone the first MiB. | given 20000000 21000000 | text.20000000 | check --workers 4
+docs/DECISIONS.md | Chunks of a file have 256 KiB, or the size that `--piece` gives, up to 8 MiB | memory - 60000 | text.60000000 | check --workers 4 --piece 1000000000
 jx.1 | So their workers share an input of some 5.25 MiB or more. | threads 0 0 | cat text.5505023 | check --workers 4
 jx.1 | So their workers share an input of some 5.25 MiB or more. | threads 4 4 | cat text.5505024 | check --workers 4
 jx.1 | So workers share such an input of some 5.25 MiB or more. | threads 0 0 | cat seq.5500000 | seq --workers 4 -q
 jx.1 | So workers share such an input of some 5.25 MiB or more. | threads 4 4 | cat seq.5510000 | seq --workers 4 -q
 jx.1 | Of one FILE each worker reads chunks of 256 KiB for itself, from a MiB on. | threads 0 0 | seq.1000000 | seq --workers 4 -q
 jx.1 | Of one FILE each worker reads chunks of 256 KiB for itself, from a MiB on. | threads 4 - | seq.5510000 | seq --workers 4 -q
+jx.1 | Of one FILE each worker reads chunks of 256 KiB for itself, from a MiB on. | given 20000000 21000000 | seq.20000000 | seq --workers 4 -q
 jx.1 | With --piece above 131072 they share a MiB or more. | threads 0 0 | cat text.1048575 | check --workers 4 --piece 131073
 jx.1 | With --piece above 131072 they share a MiB or more. | threads 4 4 | cat text.1048576 | check --workers 4 --piece 131073
-jx.1 | They share a text from a MiB on. One worker reads a text with --unique-names. | threads 0 0 | text.1048575 | explain --workers 4
-jx.1 | They share a text from a MiB on. One worker reads a text with --unique-names. | threads 4 4 | text.1048576 | explain --workers 4
-jx.1 | They share a text from a MiB on. One worker reads a text with --unique-names. | threads 0 0 | text.1048576 | explain --workers 4 --unique-names
+jx.1 | They share a text from 5.25 MiB on. One worker reads a text with --unique-names. | threads 0 0 | text.5505023 | explain --workers 4
+jx.1 | They share a text from 5.25 MiB on. One worker reads a text with --unique-names. | threads 4 4 | text.5505024 | explain --workers 4
+jx.1 | They share a text from 5.25 MiB on. One worker reads a text with --unique-names. | threads 0 0 | text.5505024 | explain --workers 4 --unique-names
 jx.1 | One worker reads with --live. | threads 0 0 | seq.20000000 | seq -q --live
 jx.1 | With one worker no thread is started, except one to look up many pointers. | threads 0 0 | text.20000000 | check --workers 1
 jx.1 | With one worker no thread is started, except one to look up many pointers. | threads 0 0 | text.20000000 | explain --workers 1
@@ -51,21 +54,24 @@ jx.1 | One worker reads the text, looks up fewer pointers, looks up by --index, 
 jx.1 | They share what one read gives, from a MiB on. | threads 4 - | text.20000000 | each --workers 4
 jx.1 | A regular FILE of a MiB or more is read by workers, each for itself. | threads 0 0 | lines.1048575 | lines --workers 4 -q
 jx.1 | A regular FILE of a MiB or more is read by workers, each for itself. | threads 4 - | lines.1200000 | lines --workers 4 -q
+jx.1 | A regular FILE of a MiB or more is read by workers, each for itself. | given 20000000 21000000 | lines.20000000 | lines --workers 4 -q
 jx.1 | What is due is written after 16 MiB at most, or 64 chunks of another size. | memory - 40000 | refused.120000000 | lines --workers 4
+jx.1 | What is due is written after 16 MiB at most, or 64 chunks of another size. | memory - 90000 | bad.20000000 | lines --workers 4
 jx.1 | A read of a pipe mostly gives less, and then one worker reads. | threads 0 0 | cat lines.20000000 | lines --workers 4 -q
 jx.1 | One worker reads, and no element is kept in memory. | threads 0 0 | seq.20000000 | seq --live
 jx.1 | One worker reads, and no element is kept in memory. | memory - 8000 | seq.20000000 | seq --live
-jx.1 | With one pointer, only its value is kept in memory. | memory - 8000 | text.20000000 | get /1
-jx.1 | With several pointers, or with --unique-names, the whole input is. | memory 19500 - | text.20000000 | get /1 /2
-jx.1 | With several pointers, or with --unique-names, the whole input is. | memory 19500 - | text.20000000 | get --unique-names /1
+jx.1 | Up to 64 pointers, only their values are kept in memory. | memory - 8000 | text.20000000 | get /1 /2 /1
+jx.1 | With more pointers, or with --unique-names, the whole input is. | memory 19500 - | text.20000000 | get --pointers many
+jx.1 | With more pointers, or with --unique-names, the whole input is. | memory 19500 - | text.20000000 | get --unique-names /1
 jx.1 | With --lines one line is kept. | memory - 8000 | lines.20000000 | get --lines /n
 jx.1 | With 10000 pointers or more the whole input is | memory 19500 - | text.20000000 | at --pointers many
 jx.1 | The text is read to its end, and one element is kept in memory. | memory - 8000 | text.20000000 | each
 jx.1 | One thread reads. | threads 0 0 | text.20000000 | save
 jx.1 | The text is read once, and not kept; its index is | memory - 8000 | text.20000000 | save
-jx.1 | So is what is read from a pipe, and a file that is shorter than 8 MiB. | memory 6800 - | text.7000000 | explain
-jx.1 | So is what is read from a pipe, and a file that is shorter than 8 MiB. | memory 19500 - | cat text.20000000 | explain
-jx.1 | So is what is read from a pipe, and a file that is shorter than 8 MiB. | memory - 8000 | text.20000000 | explain --workers 1
+jx.1 | Of a text some bytes around the place are kept in memory, and the open containers with their names. | memory - 8000 | text.7000000 | explain --workers 1
+jx.1 | Of a text some bytes around the place are kept in memory, and the open containers with their names. | memory - 8000 | cat text.20000000 | explain --workers 1
+jx.1 | Of a text some bytes around the place are kept in memory, and the open containers with their names. | memory - 8000 | text.20000000 | explain --workers 1
+jx.1 | With --unique-names a text that is refused is kept as a whole, and so is what is read from a pipe. | memory 19500 - | cat text.20000000 | explain --unique-names
 docs/RECIPES.md | Of a pipe `check` keeps two batches of up to 8 MiB, with one worker one of 256 KiB, however long the dump. | memory 16000 28000 | cat text.60000000 | check --workers 4
 docs/RECIPES.md | Of a pipe `check` keeps two batches of up to 8 MiB, with one worker one of 256 KiB, however long the dump. | memory - 8000 | cat text.60000000 | check --workers 1
 docs/RECIPES.md | Of a file each worker keeps 256 KiB. | memory - 8000 | text.60000000 | check --workers 4
@@ -74,12 +80,13 @@ docs/DECISIONS.md | A file of less than a MiB is read in order | threads 0 0 | t
 docs/DECISIONS.md | A file of less than a MiB is read in order | threads 4 4 | text.1200000 | check --workers 4
 docs/DECISIONS.md | one of up to four chunks starts no thread. | threads 0 0 | text.20000000 | check --workers 4 --piece 6000000
 docs/DECISIONS.md | With `--progress` or unique names a file is read in order | threads 0 0 | text.20000000 | check --unique-names
-docs/RECIPES.md | With one pointer `get` keeps only its value in memory, with several the whole text. | memory - 8000 | cat text.20000000 | get /1
+docs/RECIPES.md | Up to 64 pointers `get` keeps only their values in memory, with more the whole text. | memory - 8000 | cat text.20000000 | get /1 /2
 docs/DECISIONS.md | One worker that looks up pointers in an index has a thread of its own | threads 1 1 | text.1200000 | get --workers 1 --pointers many
 LINES
 }
 
-# Loaded before the C library: at the end of a call it writes how many threads were made, and the peak of its memory.
+# Loaded before the C library: at the end of a call it writes how many threads were made, the peak of its memory, and how many bytes all
+# reads gave. What workers judged and nobody took is read twice.
 make_counter() {
     cat >counter.c <<'CODE'
 #define _GNU_SOURCE
@@ -91,7 +98,24 @@ make_counter() {
 #include <sys/syscall.h>
 #include <unistd.h>
 
-static atomic_ulong made;
+static atomic_ulong made, given;
+
+static ssize_t noted(ssize_t count) {
+    if (count > 0) atomic_fetch_add(&given, (unsigned long)count);
+    return count;
+}
+
+ssize_t read(int file, void *room, size_t size) {
+    ssize_t (*call)(int, void *, size_t) = dlsym(RTLD_NEXT, "read");
+    return noted(call(file, room, size));
+}
+
+ssize_t pread64(int file, void *room, size_t size, off64_t at) {
+    ssize_t (*call)(int, void *, size_t, off64_t) = dlsym(RTLD_NEXT, "pread64");
+    return noted(call(file, room, size, at));
+}
+
+ssize_t pread(int file, void *room, size_t size, off_t at) { return pread64(file, room, size, at); }
 
 int pthread_create(pthread_t *thread, const pthread_attr_t *how, void *(*job)(void *), void *with) {
     int (*create)(pthread_t *, const pthread_attr_t *, void *(*)(void *), void *) = dlsym(RTLD_NEXT, "pthread_create");
@@ -105,7 +129,7 @@ void _exit(int status) {
     FILE *about = fopen("/proc/self/status", "r");
     while (about && fgets(line, sizeof line, about)) sscanf(line, "VmHWM: %lu", &peak);
     FILE *counts = fopen(getenv("JX_COUNTS"), "w");
-    if (counts) fprintf(counts, "threads=%lu memory=%lu\n", (unsigned long)made, peak);
+    if (counts) fprintf(counts, "threads=%lu memory=%lu given=%lu\n", (unsigned long)made, peak, (unsigned long)given);
     if (counts) fclose(counts);
     syscall(SYS_exit_group, status);
     __builtin_unreachable();
@@ -116,12 +140,13 @@ CODE
 
 # make_inputs: the files that the lines name, each of so many bytes.
 make_inputs() {
-    claims | cut -d '|' -f 4 | grep -oE '(text|lines|refused|seq)\.[0-9]+' | sort -u >inputs
+    claims | cut -d '|' -f 4 | grep -oE '(text|lines|refused|bad|seq)\.[0-9]+' | sort -u >inputs
     python3 - <<'CODE'
 PARTS = {
     "text": (b"[1", b',"abcdefgh"', b"]"),
     "lines": (b"", b'{"n":1}\n', b""),
     "refused": (b"", b'{"n":1}\n' * 15 + b"x\n", b""),
+    "bad": (b"", b"x\n", b""),
     "seq": (b"", b'\x1e{"n":1}\n', b""),
 }
 for name in open("inputs").read().split():

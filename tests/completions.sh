@@ -30,11 +30,11 @@ the_options_of_each_command_are_offered() {
 bash_completes_what_is_begun() {
     local command
     same 'bash: the options of jx' "$(options_of '')" "$(offered jx --)"
-    same 'bash: a command that is begun' check "$(offered jx c)"
+    same 'bash: a command that is begun' check "$(offered jx ch)"
     same 'bash: an option that is begun' --depth "$(offered jx check --d)"
     printf x >text.json
     same 'bash: a file' text.json "$(offered jx check --file te)"
-    for command in check explain index each seq save; do
+    for command in check explain index each keys count seq save; do
         same "bash: a file as a word of $command" text.json "$(offered jx $command te)"
     done
     same 'bash: no file as a word of at' '' "$(offered jx at te)"
@@ -51,6 +51,9 @@ bash_completes_what_is_begun() {
 
 zsh_and_fish_read_their_files() {
     local shell file
+    for file in _jx jx.fish; do
+        same "each quotation mark of $file is closed on its line" '' "$(awk -F "'" 'NF && NF % 2 == 0' "$root/completions/$file")"
+    done
     for shell in zsh fish; do
         if command -v $shell >/dev/null; then
             file=$root/completions/_jx

@@ -2,6 +2,7 @@
 import os
 import pathlib
 import random
+import re
 import subprocess
 import sys
 
@@ -24,9 +25,9 @@ def same(name, wanted, got):
     print("FAILED %s\n  wanted %s\n  got    %s" % (name, shown(wanted), shown(got)))
 
 
-def each_of(words, text):
+def each_of(words, text, command="each"):
     pathlib.Path("shared").write_bytes(text)
-    done = subprocess.run([PROGRAM, "each", *words, "--file", "shared"], capture_output=True)
+    done = subprocess.run([PROGRAM, command, *words, "--file", "shared"], capture_output=True)
     return done.stdout, done.stderr, done.returncode
 
 
@@ -106,6 +107,11 @@ def container(chance, maker, made, named):
     return b"".join(parts), lines
 
 
+def names_in(lines):
+    """The names in lines of members, each on a line."""
+    return b"".join(name + b"\n" for name in re.findall(rb'^\{"name":("(?:[^"\\]|\\.)*"),', lines, re.M))
+
+
 # A pointer, what stands in front of the container that it leads to, and what stands behind it.
 PLACES = [
     ([], b"", b""),
@@ -124,20 +130,24 @@ def by_workers():
         made = elements(chance, maker, chance.choice([1100000, 2300000, 4300000, 9000000]))
         inside, lines = container(chance, maker, made, named)
         words, front, behind = chance.choice(PLACES)
-        words = words + ["--names"] * named
         text = front + inside + behind
-        told = b"jx: name repeated at token 0\n" if behind.startswith(b',"a":') else b""
+        told = b"jx: shared: /a: name repeated at token 0\n" if behind.startswith(b',"a":') else b""
         whole = b"".join(line for line, _ in lines)
         cut = len(front) + chance.randrange(len(inside))
         due = b"".join(line for line, at in lines if len(front) + at < cut)
         inputs = [("", text, (whole, told, int(told != b"")))]
-        inputs.append((", cut at %d" % cut, text[:cut], (due, b"jx: truncated\n", 1)))
-        inputs.append((", a fault at %d" % cut, text[:cut] + b"\0" + text[cut:], (due, b"jx: stopped at %d\n" % cut, 1)))
+        inputs.append((", cut at %d" % cut, text[:cut], (due, b"jx: shared: truncated\n", 1)))
+        inputs.append((", a fault at %d" % cut, text[:cut] + b"\0" + text[cut:], (due, b"jx: shared: stopped at %d\n" % cut, 1)))
         for more, given, wanted in inputs:
             for workers in [1, *chance.sample(range(2, 9), 2), 64][: 3 + (number == 0)]:
                 piece = chance.choice([chance.randrange(1, 65537), chance.randrange(1000, 65537), 65536, 300000, 1048576])
                 asked = words + ["--workers", str(workers), "--piece", str(piece)]
-                same("text %d of %d bytes by %s%s" % (number, len(given), asked, more), wanted, each_of(asked, given))
+                name = "text %d of %d bytes by %s%s" % (number, len(given), asked, more)
+                output, told, status = wanted
+                same(name, wanted, each_of(asked + ["--names"] * named, given))
+                if named:
+                    same("names of " + name, (names_in(output), told, status), each_of(asked, given, "keys"))
+                same("number of " + name, (b"" if told else b"%d\n" % len(lines), told, status), each_of(asked, given, "count"))
 
 
 by_workers()

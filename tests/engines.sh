@@ -114,7 +114,7 @@ gnu_parallel_comes_to_the_verdict() {
     has 'parallel: parts in another order' ' was due' "$(cuts | tac | whole_of good)"
     has 'parallel: a part twice' ' was due' "$(cuts | sed '3p' | whole_of good)"
     has 'parallel: a part is missing' ' was due' "$(cuts | sed '5d' | whole_of good)"
-    has 'parallel: the last part is missing' "jx: the runs cover 0.." "$(cuts | sed '$d' | whole_of good)"
+    has 'parallel: the last part is missing' "jx: -: the runs cover 0.." "$(cuts | sed '$d' | whole_of good)"
     same 'parallel: it cuts by itself' accepted "$(timeout $most parallel -j4 -k --pipepart --recend '' --block $step -a good jx part | jx whole --to $size)"
 }
 

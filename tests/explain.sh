@@ -25,6 +25,13 @@ object() {
     printf "$text" | "$program" check --format json "$@"
 }
 
+# marked TEXT OPTION..: what `check --format gnu` prints of a text.
+marked() {
+    local text=$1
+    shift
+    printf "$text" | "$program" check --format gnu "$@"
+}
+
 the_place_is_a_line_and_a_column_of_characters() {
     same 'the first byte' '1:1: expected a value, found }' "$(sentence '}')"
     same 'a later line' '3:3: expected a value, found ]' "$(sentence '[1,\n2,\n  ]')"
@@ -162,7 +169,16 @@ likely_mistakes_are_named() {
     same 'a string that goes on to the next one' 'a quotation mark is missing, or one is not escaped' "$(guess '{"a":"b, "c":1}')"
     same 'a name that does' 'a quotation mark is missing, or one is not escaped' "$(guess '{"a:1, "b":2}')"
     same 'quotation marks in a string' 'a quotation mark is missing, or one is not escaped' "$(guess '["say "hi" now"]')"
+    same 'a string that goes on to digits' 'a quotation mark is missing, or one is not escaped' "$(guess '{"a":"b, "1":2}')"
+    same 'a size in inches' 'a quotation mark is missing, or one is not escaped' "$(guess '["a 5" screen"]')"
+    same 'letters beyond ASCII behind a string' 'a quotation mark is missing, or one is not escaped' "$(guess '["a "\303\251" b"]')"
+    same 'a backslash behind a string' 'a quotation mark is missing, or one is not escaped' "$(guess '["a"\\n"]')"
+    same 'a digit behind a string and a blank' 'a comma is missing' "$(guess '["a" 1]')"
     same 'a literal behind a string' 'a comma is missing' "$(guess '["a" true]')"
+    same 'a byte order mark between texts' 'a byte order mark between two texts' "$(guess '{}\n\357\273\277{}')"
+    same 'a text sequence' 'a text sequence, which jx seq reads' "$(guess '\036{}\n')"
+    same 'a page' 'HTML or XML, where JSON is due' "$(guess '\n<html>')"
+    same 'an angle bracket in a text' '' "$(guess '[<')"
     same 'a letter behind a number' '' "$(guess '{"a":1 b')"
     same 'another word has no guess' '' "$(guess '[x]')"
     same 'nor has a bracket of the other kind' '' "$(guess '[1}')"
@@ -205,6 +221,14 @@ editors_have_a_line_for_each_refused_file() {
     same 'three words' "$(printf '%s\n' 'status 1' 'out: bad.json:1:4: expected a value, found ] (byte 3)' 'out: -:2:1: the text ends where a string or } is expected (byte 2)')" \
         "$(said '{\n' check --format gnu good.json bad.json -)"
     same 'the same sentence as for people' "$(shown '[1,tru' | head -n 1)" "$(printf '[1,tru' | "$program" check --format gnu)"
+    same 'columns count bytes: a tab' '-:1:3: expected a value or ], found x (byte 2)' "$(marked '[\tx')"
+    same 'a character of two bytes' '-:1:8: expected a value, found x (byte 7)' "$(marked '["\303\251", x')"
+    same 'one that takes two columns of a terminal' '-:1:9: expected a value, found x (byte 8)' "$(marked '["\346\274\242", x')"
+    same 'one of four bytes, in a later line' '-:2:9: expected a value, found x (byte 10)' "$(marked '[\n"\360\237\230\200", x')"
+    same 'a letter and its accent' '-:1:9: expected a value, found x (byte 8)' "$(marked '["e\314\201", x')"
+    same 'inside a character' '-:1:3: expected a byte from 80 to 9F, found \xA0 (byte 2)' "$(marked '"\355\240\200"')"
+    same 'a byte order mark' '-:1:5: expected a value or ], found a comma (byte 4)' "$(marked '\357\273\277[,]' --ignore-bom)"
+    same 'the end' '-:2:6: the text ends where a comma or ] is expected (byte 7)' "$(marked '[\n"\303\251" ')"
     same 'plain is the default' "$(said '' check good.json bad.json)" "$(said '' check --format plain good.json bad.json)"
     has 'another word' "error: invalid value 'xml' for '--format <FORMAT>'" "$(said '' check --format xml good.json)"
     has 'a format and a list' "error: the argument '--format <FORMAT>' cannot be used with" "$(said '' check --format gnu -l good.json)"
@@ -237,7 +261,8 @@ subprocess.run([*sys.argv[1:], "--workers", "1"], stdout=subprocess.DEVNULL)
 print("held" if resource.getrusage(resource.RUSAGE_CHILDREN).ru_maxrss >= 40000 else "not held")' "$program" "$@"
 }
 
-a_long_file_that_is_accepted_is_not_held() {
+a_long_input_is_not_held() {
+    local words
     { printf '['; head -c 60000000 /dev/zero | tr '\0' ' '; printf '0]'; } >long.json
     { cat long.json; printf ' x'; } >longer.json
     same 'a long file' 'long.json: accepted' "$("$program" explain -v long.json)"
@@ -246,9 +271,36 @@ a_long_file_that_is_accepted_is_not_held() {
     same 'its memory' 'not held' "$(held explain long.json)"
     same 'its memory, for machines' 'not held' "$(held check --format json long.json)"
     same 'a long file that is refused' 'longer.json:1:60000005: expected the end of the text, found x (byte 60000004)' "$("$program" check --format gnu longer.json)"
-    same 'its memory' 'held' "$(held explain longer.json)"
+    for words in explain 'check --format gnu' 'check --format json'; do
+        # shellcheck disable=SC2086
+        same "its memory, by $words" 'not held' "$(held $words longer.json)"
+    done
+    same 'its memory where names have to be unique' 'held' "$(held explain --unique-names longer.json)"
     same 'a long file from a pipe' '-: accepted' "$(cat long.json | "$program" explain -v)"
+    same 'one that is refused' "$("$program" explain longer.json | sed 's/^longer.json/-/')" "$(cat longer.json | "$program" explain)"
+    same 'its memory' 'not held' "$(cat longer.json | held explain)"
     rm long.json longer.json
+}
+
+# A fault far behind what it is in, and names and strings that one read does not hold.
+what_is_far_from_the_fault_is_known() {
+    local wide
+    wide=$(printf '%0300000d' 0)
+    { printf '{"a":[1,{"b\\u0063 %s":[' "$wide"; printf '0,%.0s' {1..100000}; printf '?'; } >far.json
+    same 'its pointer' "/a/1/bc $wide/100000" "$("$program" check --format json far.json | "$program" get -r /pointer)"
+    same 'from a pipe' "/a/1/bc $wide/100000" "$(cat far.json | "$program" check --format json | "$program" get -r /pointer)"
+    { printf '[1,\n "%s' "$wide"; } >open.json
+    same 'a string that ends nowhere' 'the text ends inside a string that began at line 2, column 2' "$("$program" check --format json open.json | "$program" get -r /sentence)"
+    { printf '{"a":"%s' "$wide"; printf ', "b":1}'; } >quote.json
+    same 'a string far before' 'perhaps: a quotation mark is missing, or one is not escaped' "$("$program" explain quote.json | tail -n 1)"
+    { printf '[\n\n'; printf '%300000s' ''; printf ']]'; } >blank.json
+    same 'blanks far before' "blank.json:3:300002: expected the end of the text, found ] (byte 300004)" "$("$program" check --format gnu blank.json)"
+    same 'a text that comes byte by byte' "$(printf '{"a b":[1,{"c":x' | "$program" explain)" \
+        "$({ for byte in '{' '"a' ' b' '"' ':' '[' '1' ',' '{' '"' 'c' '"' ':' 'x'; do printf '%s' "$byte"; sleep 0.02; done; } | "$program" explain)"
+    same 'a mark that comes byte by byte' '-:1:3: expected a value or ], found a comma (byte 4)' \
+        "$({ printf '\357'; sleep 0.1; printf '\273'; sleep 0.1; printf '\277'; sleep 0.1; printf '[,]'; } | "$program" explain --ignore-bom | head -n 1)"
+    same 'a part of one' '-:1:2: a byte order mark is begun and not ended (byte 2)' \
+        "$({ printf '\357'; sleep 0.1; printf '\273'; sleep 0.1; printf '1'; } | "$program" explain --ignore-bom | head -n 1)"
 }
 
 the_name_is_that_of_the_file() {
@@ -289,6 +341,7 @@ tests the_place_is_a_line_and_a_column_of_characters \
     refused_files_alone_are_listed \
     editors_have_a_line_for_each_refused_file \
     machines_have_an_object_for_each_file \
-    a_long_file_that_is_accepted_is_not_held \
+    a_long_input_is_not_held \
+    what_is_far_from_the_fault_is_known \
     the_name_is_that_of_the_file \
     colors_are_shown_where_they_are_asked_for

@@ -15,15 +15,15 @@ counts() {
     fi
 }
 
-# c_program COMPILER NAME: compiles the program NAME.c and runs it over the table of texts.
+# c_program COMPILER NAME [TABLE]: compiles the program NAME.c and runs it over the table of texts, or over another.
 c_program() {
-    local compiler=$1 name=$2 wrapped= said status
+    local compiler=$1 name=$2 table=${3-verdicts} wrapped= said status
     # All but the first refuse requests for memory.
     if [ "$name" != verdicts ]; then wrapped=-Wl,--wrap=malloc,--wrap=realloc; fi
     said=$("$compiler" -std=c11 -O1 -g -Wall -Wextra -Werror -fsanitize=address,undefined -fno-sanitize-recover=all \
         $wrapped -I"$root/include" "$root/tests/c/$name.c" -L"$library" -ljx -o "$name" 2>&1)
     same "$compiler compiles and links $name" '' "$said"
-    said=$("./$name" "$root/tests/verdicts" 2>&1)
+    said=$("./$name" "$root/tests/$table" 2>&1)
     status=$?
     same "$compiler: $name ends well" 0 "$status"
     counts "${said##*$'\n'}"
@@ -41,6 +41,7 @@ c_programs_come_to_what_the_table_says() {
         for name in verdicts indexed indexes shelves finder values saved sequences lines settings documents runs compact; do
             c_program "$compiler" "$name"
         done
+        c_program "$compiler" explain sentences
     done
     if [ -z "$is_compiled" ]; then echo 'library.sh: skipped: there is no C compiler'; fi
 }

@@ -1,6 +1,8 @@
 """Values of lines: what `get --lines` writes and tells of random JSON Lines, by random pointers, settings and cuts of a pipe, is what the reader below
-has for each line. It is written from RFC 8259, RFC 6901 and RFC 7464 alone, and Python's json has to accept what it accepts. The last line is
-`N passed, M failed`."""
+has for each line. It is written from RFC 8259, RFC 6901 and RFC 7464 alone, and Python's json has to accept what it accepts. Rows of `--format`
+are read back too, by Python's csv and by the escapes of PostgreSQL's text format. The last line is `N passed, M failed`."""
+import csv
+import io
 import json
 import os
 import pathlib
@@ -11,9 +13,11 @@ import sys
 import tempfile
 import threading
 import time
+from dataclasses import dataclass
 
 import counts
 from counts import HERE, PROGRAM, same
+from shown import shown_bytes
 
 INPUTS = int(os.environ.get("JX_LINE_VALUES", "1000"))
 BLANKS = b" \t\n\r"
@@ -191,41 +195,107 @@ def refuse_part_of_mark(line):
         raise Refused("stopped at %d" % count)
 
 
-def of_line(number, line, ended, pointers, depth, skips, is_bare):
-    """The values of a line, and what is told of it."""
-    none = [b""] * len(pointers)
+# ---- one row
+
+
+@dataclass
+class Form:
+    """How values stand in a row: as json, tsv or csv."""
+
+    name: str
+    null: bytes = b""
+    header: bool = False
+
+    def between(self):
+        return b"," if self.name == "csv" else b"\t"
+
+    def text_cell(self, text):
+        if self.name == "tsv":
+            return re.sub(rb"[\t\n\r\\]", lambda found: {b"\t": b"\\t", b"\n": b"\\n", b"\r": b"\\r", b"\\": b"\\\\"}[found[0]], text)
+        if self.name == "csv" and (not text or text == self.null or re.search(rb'[,"\n\r\\]', text)):
+            return b'"' + text.replace(b'"', b'""') + b'"'
+        return text
+
+    def cell(self, value):
+        """What stands for a value, and what is told of it."""
+        if self.name == "json":
+            return compact(value), ""
+        if value == b"null":
+            return self.null, ""
+        text = json.loads(value.decode()) if value[:1] == b'"' else compact(value).decode()
+        try:
+            return self.text_cell(text.encode()), ""
+        except UnicodeEncodeError:
+            return self.null, "half a surrogate pair"
+
+    def row(self, cells):
+        return self.between().join(cells) + b"\n"
+
+    def words(self, chance):
+        """Words that ask for it. The word that COPY takes for no value may be left out."""
+        if self.name == "json":
+            return []
+        is_default = self.null == {"tsv": b"\\N", "csv": b""}[self.name]
+        word = [] if is_default and chance.random() < 0.7 else ["--null=" + self.null.decode()]
+        return ["--format", self.name, *word] + ["--header"] * self.header
+
+
+JSON = Form("json")
+
+
+def a_form(chance):
+    name = chance.choice(["json", "json", "tsv", "csv"])
+    if name == "json":
+        return JSON
+    null = b"\\N" if name == "tsv" else b""
+    return Form(name, chance.choice([null, null, b"", b"\\N", b"-", b"NULL", b"1", "\u00e9".encode()]), chance.random() < 0.3)
+
+
+def read_back(form, output):
+    """The texts of the cells of all rows, as another reader has them."""
+    if form.name == "csv":
+        return [row or [""] for row in csv.reader(io.StringIO(output.decode(), newline=""), strict=True)]
+    unescaped = lambda cell: re.sub(r"\\([tnr\\])", lambda found: {"t": "\t", "n": "\n", "r": "\r", "\\": "\\"}[found[1]], cell)
+    return [[unescaped(cell) for cell in row.split("\t")] for row in output.decode().split("\n")[:-1]]
+
+
+def of_line(number, line, ended, pointers, depth, skips, is_bare, form):
+    """The cells of a line, and what is told of it behind the name of the input."""
+    none = [form.null] * len(pointers)
     if not line.strip(BLANKS):
-        return none, b"" if skips else b"jx: line %d: blank\n" % number
+        return none, b"" if skips else b"line %d: blank\n" % number
     try:
         if is_bare:
             refuse_part_of_mark(line)
         root, is_open = Line(line, depth).whole()
         json.loads(line.decode())
     except Refused as refused:
-        return none, b"jx: line %d: %s\n" % (number, str(refused).encode())
+        return none, b"line %d: %s\n" % (number, str(refused).encode())
     if is_open and not ended:
-        return none, b"jx: line %d: may be cut\n" % number
-    values, told = [], b""
+        return none, b"line %d: may be cut\n" % number
+    cells, told = [], b""
     for tokens, pointer in pointers:
         node, why = led(root, tokens)
-        values.append(compact(line[node.start : node.end]) if node else b"")
-        told += b"" if node else b"jx: line %d: %s: %s\n" % (number, pointer.encode(), why.encode())
-    return values, told
+        cell, lacking = form.cell(line[node.start : node.end]) if node else (form.null, why)
+        cells.append(cell)
+        told += b"line %d: %s: %s\n" % (number, shown_bytes(pointer.encode()), lacking.encode()) if lacking else b""
+    return cells, told
 
 
 # ---- all lines
 
 
-def wanted_of(text, pointers, depth, skips, ignores):
+def wanted_of(text, pointers, depth, skips, ignores, form=JSON, name=b"-"):
     marked = ignores and text.startswith(MARK)
     parts = text[3 if marked else 0 :].split(b"\n")
-    output = told = b""
+    output = form.row([form.text_cell(pointer.encode()) for _, pointer in pointers]) if form.header else b""
+    told = b""
     for place, part in enumerate(parts):
         ended = place + 1 < len(parts)
         if ended or part:
-            values, words = of_line(place + 1, part, ended, pointers, depth, skips, ignores and not marked and place == 0)
-            output += b"\t".join(values) + b"\n"
-            told += words
+            cells, words = of_line(place + 1, part, ended, pointers, depth, skips, ignores and not marked and place == 0, form)
+            output += form.row(cells)
+            told += re.sub(rb"^(?=.)", b"jx: %s: " % name, words, flags=re.M) if words else b""
     return output, told, int(told != b"")
 
 
@@ -262,7 +332,7 @@ def a_value(chance, depth=0):
     blank = lambda: chance.choice([b"", b"", b"", b" ", b"\t", b"\r"])
     kind = chance.choice(["scalar", "array", "object", "object"]) if depth < 3 else "scalar"
     if kind == "scalar":
-        return chance.choice([b"1", b"-2.5e3", b"null", b"true", b'"a\\tb"', b'"{\\"b\\": [1, 2]}"', b'"\\\\"', b"[ ]", b"{ }", b'"\xf0\x9f\x98\x80\\ud83d"', b'"\\n"'])
+        return chance.choice([b"1", b"-2.5e3", b"null", b"true", b'"a\\tb"', b'"{\\"b\\": [1, 2]}"', b'"\\\\"', b"[ ]", b"{ }", b'"\xf0\x9f\x98\x80\\ud83d"', b'"\\n"', b'""', b'"a"', b'"\\."', b'"\\u002c\\"\\r\\/"', b'"NULL"', b'"\\ud83d\\ude00, \xc3\xa9"', b'"\\u0000\x7f"'])
     parts = []
     for _ in range(chance.randrange(4)):
         name = chance.choice([b'"a"', b'"a"', b'"b"', b'"\\u0061"', b'"a/b~c"', b'"a\\/b\\u007ec"', b'""', b'"\xc3\xa9"', b'"aa"', b'"0"', b'"a\\""'])
@@ -305,14 +375,30 @@ def randomly():
         text = random_text(chance)
         pointers = [a_pointer(chance) for _ in range(chance.choice([1, 1, 2, 3, 5]))]
         settings = chance.choice([512, 512, 512, 1, 2, 0]), chance.random() < 0.4, chance.random() < 0.5
-        words = asked(chance, pointers, settings)
-        wanted = wanted_of(text, pointers, *settings)
+        form = a_form(chance)
+        words = form.words(chance) + asked(chance, pointers, settings)
+        wanted = wanted_of(text, pointers, *settings, form)
         cuts = sorted(chance.randrange(len(text) + 1) for _ in range(chance.randrange(6)))
         same("%s of %r" % (words, text), wanted, written(words, text, cuts, chance))
         if chance.random() < 0.3:
             pathlib.Path("text").write_bytes(text)
             done = subprocess.run([PROGRAM, "get", "--lines", "--file", "text", *words], capture_output=True)
-            same("%s of a file, %r" % (words, text), wanted, (done.stdout, done.stderr, done.returncode))
+            same("%s of a file, %r" % (words, text), wanted_of(text, pointers, *settings, form, b"text"), (done.stdout, done.stderr, done.returncode))
+
+
+def read_again():
+    """Rows are read back as the texts of the values, row by row."""
+    chance = random.Random(4180)
+    strings = ["", "a", ",", '"', "\n", "\r\n", "\t", "\\", "\\.", "\\N", "NULL", "\u00e9", "\U0001f600", "\x00", " b "]
+    for _ in range(INPUTS):
+        count = chance.choice([1, 2, 3])
+        values = [[chance.choice(["".join(chance.choices(strings, k=chance.randrange(4))), None, 12, True, [1, "a\n"], {"b": '"'}]) for _ in range(count)] for _ in range(chance.randrange(5))]
+        text = "".join(json.dumps(row, ensure_ascii=chance.random() < 0.5) + "\n" for row in values).encode()
+        texts = [["\x01" if cell is None else cell if isinstance(cell, str) else json.dumps(cell, separators=(",", ":")) for cell in row] for row in values]
+        for name in ("csv", "tsv"):
+            words = ["--format", name, "--null", "\x01", *["/%d" % place for place in range(count)]]
+            output, told, status = written(words, text, [], chance)
+            same("%s of %r" % (words, text), (texts, b"", 0), (read_back(Form(name), output), told, status))
 
 
 def each_line_alone():
@@ -324,7 +410,7 @@ def each_line_alone():
         for number, line in enumerate((text + b"\n").split(b"\n")[:-1], 1):
             done = subprocess.run([PROGRAM, "check"], input=line, capture_output=True)
             if line.strip(BLANKS) and done.returncode == 1:
-                words = b"jx: line %d: %s" % (number, done.stdout)
+                words = b"jx: -: line %d: %s" % (number, done.stdout)
                 same("line %d of %r alone" % (number, text), True, words in told)
 
 
@@ -350,7 +436,7 @@ def long_lines():
 
 with tempfile.TemporaryDirectory() as folder:
     os.chdir(folder)
-    for test in (randomly, each_line_alone, in_slices, long_lines):
+    for test in (randomly, read_again, each_line_alone, in_slices, long_lines):
         test()
     os.chdir(HERE)
 counts.ended()

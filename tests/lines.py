@@ -218,6 +218,12 @@ def passed_of(text, depth, ignores):
     return passed
 
 
+def first_of(output, text, most):
+    """What `--max` leaves of an output: the first refused lines, where a line feed ends so many, and else all of it."""
+    ended = [line for line in output.splitlines(True)[:-1] if int(line.split()[0]) <= text.count(b"\n")]
+    return "".join(ended[:most]) if len(ended) >= most else output
+
+
 def wanted_of_sequence(text, depth, ignores):
     """The lines for the elements of a text sequence (RFC 7464, section 2)."""
     output, status, at = "", 0, 0
@@ -289,6 +295,9 @@ def randomly():
         same("%s of %r" % (words, text), (output.encode(), b"", status), told_of(words, text, chance))
         if chance.random() < 0.2:
             same("-q %s of %r" % (words, text), (b"", b"", status), told_of([*words, "-q"], text, chance))
+        most = 1 + len(text) % 3
+        done = subprocess.run([PROGRAM, "lines", *words, "--max", str(most)], input=text, capture_output=True)
+        same("--max %d %s of %r" % (most, words, text), (first_of(output, text, most).encode(), b"", status), (done.stdout, done.stderr, done.returncode))
         if chance.random() < 0.5:
             passed = passed_of(text, depth, ignores)
             same("--pass %s of %r" % (words, text), (passed, output.encode(), status), told_of([*words, "--pass"], text, chance))

@@ -45,7 +45,7 @@ a_mark_is_of_the_input_and_of_no_line() {
     same 'a part of one and another byte' "$(all 'status 1' 'out: 1 0..3 stopped at 2' 'out: accepted 1, refused 1')" "$(said '\357\2731\n1\n' lines --ignore-bom)"
     same 'a part of one in another line' "$(all 'status 1' 'out: 2 2..4 stopped at 2' 'out: accepted 1, refused 1')" "$(said '1\n\357\273\n' lines --ignore-bom)"
     same 'a part of one behind one' "$(all 'status 1' 'out: 1 3..5 stopped at 3' 'out: accepted 0, refused 1')" "$(said '\357\273\277\357\273' lines --ignore-bom)"
-    same 'a part of one has no values' "$(all 'status 1' 'out: ' 'out: 2' 'err: jx: line 1: truncated')" "$(said '\357\273\n2\n' get --lines --ignore-bom '')"
+    same 'a part of one has no values' "$(all 'status 1' 'out: ' 'out: 2' 'err: jx: -: line 1: truncated')" "$(said '\357\273\n2\n' get --lines --ignore-bom '')"
 }
 
 # What a read gives is shared where it is a MiB or more.
@@ -115,6 +115,7 @@ several_files_have_each_line_behind_their_name() {
 
 accepted_lines_pass() {
     same 'beside the report' "$(all 'status 1' 'out: 1' 'out: [2]' 'err: 2 2..5 truncated' 'err: accepted 2, refused 1')" "$(said '1\n[1,\n[2]\n' lines --pass)"
+    same 'in front of the report' "$(all 1 '1 0..1 stopped at 0' 'accepted 1, refused 1')" "$(printf 'x\n1\n' | "$program" lines --pass 2>&1)"
     same 'all' "$(all 'status 0' 'out: 1' 'out: 2' 'err: accepted 2, refused 0')" "$(said '1\n2\n' lines --pass)"
     same 'none' "$(all 'status 1' 'err: 1 0..1 stopped at 0' 'err: accepted 0, refused 1')" "$(said 'x\n' lines --pass)"
     same 'no line' "$(all 'status 0' 'err: accepted 0, refused 0')" "$(said '' lines --pass)"
@@ -159,6 +160,45 @@ a_report_is_appended_to_a_file() {
         same 'a full device for the lines' "$(all 'jx: write failed: No space left on device' 'status 2')" "$(printf '1\n' | "$program" lines --pass 2>&1 >/dev/full; echo "status $?")"
     fi
     rm -f report
+}
+
+the_first_refused_lines_are_told() {
+    local bad='x\n1\n\n[\n2\ny' form most
+    same 'none is refused' "$(all 'status 0' 'out: accepted 2, refused 0')" "$(said '1\n2\n' lines --max 1)"
+    same 'no line' "$(all 'status 0' 'out: accepted 0, refused 0')" "$(said '' lines --max 1)"
+    for form in plain gnu json; do
+        same "fewer are refused, as $form" "$(said "$bad" lines --format $form)" "$(said "$bad" lines --max 5 --format $form)"
+        for most in 1 2 3; do
+            same "the first $most, as $form" "$(said "$bad" lines --format $form | head -n $((most + 1)))" "$(said "$bad" lines --max $most --format $form)"
+        done
+    done
+    same 'as many are refused' "$(all 'status 1' 'out: 1 0..1 stopped at 0' 'out: 3 4..4 blank')" "$(said 'x\n1\n\n' lines --max 2)"
+    same 'the end of the last one is that of the input' "$(all 'status 1' 'out: 1 0..1 stopped at 0' 'out: 2 2..3 stopped at 2' 'out: accepted 0, refused 2')" \
+        "$(said 'x\ny' lines --max 2)"
+    same 'empty lines are skipped' "$(all 'status 1' 'out: 3 2..3 stopped at 2')" "$(said '\n\nx\ny\n' lines --max 1 --skip-blank)"
+    same 'a depth' "$(all 'status 1' 'out: 2 3..7 too deep at 4')" "$(said '[]\n[[]]\n[[]]\n' lines --max 1 --depth 1)"
+    printf 'x\n1\ny\n' >one
+    printf '2\nz\n' >two
+    same 'of each file' "$(all 'status 1' 'out: one: 1 0..1 stopped at 0' 'out: two: 2 2..3 stopped at 2')" "$(said '' lines --max 1 one two)"
+    same 'of each file, and one that is missing' "$(all 'status 2' 'out: one: 1 0..1 stopped at 0' 'out: one: 3 4..5 stopped at 4' 'out: two: 2 2..3 stopped at 2' \
+        'out: two: accepted 1, refused 1' 'err: jx: missing: cannot open: No such file or directory')" "$(said '' lines --max 2 one missing two)"
+    same 'of a file that workers would share' "$(all 'status 1' 'out: 7 12..14 stopped at 13' 'out: 200000 1288889..1288889 blank')" "$(said '' lines --workers 4 --max 2 numbers)"
+    same 'and where that has fewer' "$(said '' lines numbers)" "$(said '' lines --workers 4 --max 4 numbers)"
+    has '0' "error: invalid value '0' for '--max <N>'" "$(said '' lines --max 0)"
+    has 'quiet' "error: the argument '--max <N>' cannot be used with '--quiet'" "$(said '' lines --max 1 -q)"
+    has 'a list' "error: the argument '--max <N>' cannot be used with '--list'" "$(said '' lines --max 1 -l)"
+    has 'lines that pass' "error: the argument '--max <N>' cannot be used with '--pass'" "$(said '' lines --max 1 --pass)"
+}
+
+# No more is waited for than the last line that is told.
+the_first_refused_lines_end_the_reading() {
+    mkfifo open
+    exec 9<>open
+    printf '1\nx\n[2' >&9
+    same 'of a pipe that stays open' "$(all '2 2..3 stopped at 2' 'status 1')" "$(timeout 20 "$program" lines --max 1 <open; echo "status $?")"
+    exec 9>&-
+    rm open
+    same 'of lines without end' "$(all '1 0..1 stopped at 0' '2 2..3 stopped at 2')" "$(yes x | timeout 20 "$program" lines --max 2)"
 }
 
 # A line passes before the input ends.
@@ -216,6 +256,8 @@ tests lines_are_told_as_an_independent_reader_has_them \
     files_with_refused_lines_are_listed \
     accepted_lines_pass \
     a_report_is_appended_to_a_file \
+    the_first_refused_lines_are_told \
+    the_first_refused_lines_end_the_reading \
     lines_pass_while_the_input_is_read \
     lines_are_told_while_the_input_is_read \
     what_cannot_be_read_or_written \

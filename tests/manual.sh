@@ -32,16 +32,16 @@ each_fault_stands_there() {
     local line
     for line in 'FILE: cannot open: REASON' 'FILE: is a directory' 'FILE: read failed: REASON' 'FILE: too many pieces' \
         'WORD: no slash: a FILE stands behind --file' 'WORD: bad escape at K' \
-        "PATH: names a file: write jx each '' FILE, or jx each POINTER FILE" 'write failed: REASON' 'FILE: write failed: REASON' 'FILE: the input is an output, too' 'out of memory' 'no runs' 'the runs cover A..B and not C..D' \
+        "PATH: names a file: write '' FILE, or POINTER FILE" 'write failed: REASON' 'FILE: write failed: REASON' 'FILE: the input is an output, too' 'out of memory' 'FILE: no runs' 'FILE: the runs cover A..B and not C..D' \
         'a run is not written to a terminal: write it to a file or a pipe' 'an index is not written to a terminal: write it to a file or a pipe' \
-        'FAULT: the first word is a pointer, and FILE the second' 'FILE: not a saved index' 'FILE: another version' 'FILE: cut short' \
+        'WORD: FAULT: the first word is a pointer, and FILE the second' 'FILE: not a saved index' 'FILE: another version' 'FILE: cut short' \
         'FILE: damaged' 'FILE: malformed' 'FILE: more bytes than an index has' 'FILE: N bytes, and the index is of M' \
         'FILE: changed in S..E'; do
         has "the fault $line" "jx: $line" "$text"
     done
     for line in 'not a run' 'of another version' 'cut short' 'damaged' 'not well formed' 'read with depth D' \
         'begins at X, where Y was due' 'has no --from, as others have'; do
-        has "the fault $line" "jx: run K: $line" "$text"
+        has "the fault $line" "jx: FILE: run K: $line" "$text"
     done
 }
 

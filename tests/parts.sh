@@ -30,7 +30,7 @@ told() {
 }
 
 # refused LINE: a fault with this line.
-refused() { lines 'status 2' "err: jx: $1"; }
+refused() { lines 'status 2' "err: jx: -: $1"; }
 
 make_runs() {
     run 0 5 >a

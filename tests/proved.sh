@@ -38,7 +38,7 @@ make_copy() {
 
 what_is_wrong_is_told() {
     make_copy
-    wrong headings docs/PROVED.md 's/^## Trusted$/## Neither/' 'PROVED.md has the heading Neither twice'
+    wrong headings docs/PROVED.md 's/^## Trusted$/## Not promised/' 'PROVED.md has the heading Not promised twice'
     wrong headings docs/PROVED.md '/^| \[`jx_edit`\]/d' 'PROVED.md links jx_summary'
     wrong headings docs/PROVED.md 's|(\.\./crates/jx_edit/|(../crates/jx_find/|' 'PROVED.md links jx_find for jx_edit'
     wrong headings crates/jx_edit/README.md 's/^## What no clause says$/## What is proved/' 'jx_edit/README.md has the headings'

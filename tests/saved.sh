@@ -67,24 +67,24 @@ names_may_have_to_be_unique() {
     printf '{"a":1,"b":{"a":2}}' >unique.json
     "$program" save --unique-names --chunk 64 unique.json | cmp - <(model file unique.json --chunk 64 --unique-names)
     same 'the index says so' '0 0' "${PIPESTATUS[*]}"
-    same 'a name that is repeated' "$(lines 'status 1' 'err: jx: repeated name at 7')" "$(said '{"a":1,"\\u0061":2}' save --unique-names)"
+    same 'a name that is repeated' "$(lines 'status 1' 'err: jx: -: repeated name at 7')" "$(said '{"a":1,"\\u0061":2}' save --unique-names)"
     same 'else it may be' 64 "$(printf '{"a":1,"a":2}' | "$program" save | wc -c)"
     "$program" save --unique-names --names --chunk 64 unique.json | cmp - <(model file unique.json --chunk 64 --unique-names --names)
     same 'with tables of names too' '0 0' "${PIPESTATUS[*]}"
-    same 'a name that is repeated, where tables are wanted' "$(lines 'status 1' 'err: jx: repeated name at 7')" "$(said '{"a":1,"\\u0061":2}' save --unique-names --names)"
+    same 'a name that is repeated, where tables are wanted' "$(lines 'status 1' 'err: jx: -: repeated name at 7')" "$(said '{"a":1,"\\u0061":2}' save --unique-names --names)"
 }
 
 what_is_no_text_has_no_index() {
-    same 'no text' "$(lines 'status 1' 'err: jx: stopped at 3')" "$(said nulx save)"
-    same 'no text has names' "$(lines 'status 1' 'err: jx: truncated')" "$(said '{"a":' save --names)"
-    same 'too short a text' "$(lines 'status 1' 'err: jx: truncated')" "$(said '[1,' save)"
-    same 'no byte' "$(lines 'status 1' 'err: jx: truncated')" "$(said '' save)"
-    same 'a byte order mark alone' "$(lines 'status 1' 'err: jx: truncated')" "$(said '\357\273\277' save --ignore-bom)"
-    same 'a byte order mark' "$(lines 'status 1' 'err: jx: stopped at 0')" "$(said '\357\273\2771' save)"
-    same 'too deep a text' "$(lines 'status 1' 'err: jx: too deep at 2')" "$(said '[[[]]]' save --depth 2)"
+    same 'no text' "$(lines 'status 1' 'err: jx: -: stopped at 3')" "$(said nulx save)"
+    same 'no text has names' "$(lines 'status 1' 'err: jx: -: truncated')" "$(said '{"a":' save --names)"
+    same 'too short a text' "$(lines 'status 1' 'err: jx: -: truncated')" "$(said '[1,' save)"
+    same 'no byte' "$(lines 'status 1' 'err: jx: -: truncated')" "$(said '' save)"
+    same 'a byte order mark alone' "$(lines 'status 1' 'err: jx: -: truncated')" "$(said '\357\273\277' save --ignore-bom)"
+    same 'a byte order mark' "$(lines 'status 1' 'err: jx: -: stopped at 0')" "$(said '\357\273\2771' save)"
+    same 'too deep a text' "$(lines 'status 1' 'err: jx: -: too deep at 2')" "$(said '[[[]]]' save --depth 2)"
     (cat long.json; echo x) >no.json
-    same 'a fault at the end of a long text' "$(lines 'status 1' "err: jx: stopped at $(wc -c <long.json)")" "$(said '' save --chunk 64 no.json)"
-    same 'the verdict is that of check' "jx: $("$program" check no.json)" "$("$program" save no.json 2>&1)"
+    same 'a fault at the end of a long text' "$(lines 'status 1' "err: jx: no.json: stopped at $(wc -c <long.json)")" "$(said '' save --chunk 64 no.json)"
+    same 'the verdict is that of check' "jx: no.json: $("$program" check no.json)" "$("$program" save no.json 2>&1)"
 }
 
 faults_are_told() {
@@ -98,6 +98,8 @@ faults_are_told() {
     fi
     if command -v script >/dev/null; then
         same 'a terminal' 'jx: an index is not written to a terminal: write it to a file or a pipe' "$(timeout 20 script -qec "'$program' save unique.json" /dev/null </dev/null | tr -d '\r')"
+        same 'a terminal, and a text from a file' 'jx: an index is not written to a terminal: write it to a file or a pipe' \
+            "$(timeout 20 script -qec "'$program' save <unique.json" /dev/null </dev/null | tr -d '\r')"
     fi
 }
 

@@ -13,6 +13,7 @@ import sys
 
 import by_index
 import saved
+from shown import shown
 
 HERE = pathlib.Path(__file__).resolve().parent
 PROGRAM = os.environ.get("JX_PROGRAM", HERE.parent / "crates" / "jx" / "out" / "jx")
@@ -56,11 +57,11 @@ def right(case, pointer, count):
     """What is written, what is told, and the status."""
     words = by_index.answer(case.root, pointer)
     if not words.startswith("found "):
-        return "", "jx: %s\n" % words, 1
+        return "", "jx: text: %s: %s\n" % (shown(pointer), words), 1
     span = tuple(int(offset) for offset in words.split()[2].split(".."))
     node = next(node for node in nodes(case.root) if (node.start, node.end) == span)
     if node.kind not in ("array", "object"):
-        return "", "jx: not a container at token %d\n" % pointer.count("/"), 1
+        return "", "jx: text: %s: not a container at token %d\n" % (shown(pointer), pointer.count("/")), 1
     return "".join("%d..%d %d..%d\n" % part for part in parts(case.text, case.start, node, count)), "", 0
 
 

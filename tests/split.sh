@@ -24,9 +24,9 @@ parts_are_told() {
     same 'three parts, of which one is empty' "$(lines 'status 0' 'out: 2..13 0..2' 'out: 14..29 2..3')" "$(parted "${three[@]}" 3)"
     same 'more parts than children' "$(lines 'status 0' 'out: 2..5 0..1' 'out: 6..13 1..2' 'out: 14..29 2..3')" "$(parted "${three[@]}" 65536)"
     same 'members' "$(lines 'status 0' 'out: 16..21 0..1' 'out: 22..27 1..2')" "$(parted "${three[@]}" 4 /2)"
-    same 'no container' "$(lines 'status 1' 'err: jx: not a container at token 2')" "$(parted "${three[@]}" 2 /2/a)"
-    same 'no such member' "$(lines 'status 1' 'err: jx: no such member at token 1')" "$(parted "${three[@]}" 2 /2/c)"
-    same 'no pointer' "$(lines 'status 1' 'err: jx: no slash')" "$(parted "${three[@]}" 2 x)"
+    same 'no container' "$(lines 'status 1' 'err: jx: three.json: /2/a: not a container at token 2')" "$(parted "${three[@]}" 2 /2/a)"
+    same 'no such member' "$(lines 'status 1' 'err: jx: three.json: /2/c: no such member at token 1')" "$(parted "${three[@]}" 2 /2/c)"
+    same 'no pointer' "$(lines 'status 1' 'err: jx: three.json: x: no slash')" "$(parted "${three[@]}" 2 x)"
     printf '{"a":[ ],"b":[7]}' >empty.json
     "$program" save empty.json >empty.jxi
     same 'no child, no line' 'status 0' "$(parted empty.jxi --file empty.json --parts 9 /a)"

@@ -57,13 +57,77 @@ a_fault_ends_with_status_2() {
     fi
     has 'no number' "$(lines 'status 2' "err: error: invalid value 'x' for '--depth <N>'")" "$(said '' check --depth x)"
     has 'no command' "$(lines 'status 2' "err: error: 'jx' requires a subcommand")" "$(said '')"
-    same 'a name that is not UTF-8' "$(lines 'status 2' 'err: jx: a\x00b: cannot open: Invalid argument')" "$(said '' check --file $'a\377b')"
-    printf 'null' >read
-    same 'a name that is not UTF-8 among others' "$(lines 'status 2' 'out: read: accepted' 'out: read: accepted' 'err: jx: a\x00b: cannot open: Invalid argument')" \
-        "$(said '' check read $'a\377b' read)"
     has 'an option that is not UTF-8' "$(lines 'status 2' 'err: error: invalid UTF-8')" "$(said '' check --depth $'\377')"
-    has 'a pointer that is not UTF-8' "$(lines 'status 2' 'err: error: invalid UTF-8')" "$(said '1' at $'/\377')"
-    has 'a FILE of each that is not UTF-8' "$(lines 'status 2' 'err: error: invalid UTF-8')" "$(said '' each '' $'\377')"
+    has 'a number of workers that is not UTF-8' "$(lines 'status 2' 'err: error: invalid UTF-8')" "$(said '' check --workers $'\377')"
+}
+
+# WORDS | what is told of the file, behind its name.
+messages() {
+    cat <<'LINES'
+get /a --file cut | truncated
+get '' --file cut --unique-names | truncated
+get /a /b --file text | /b: no such member at token 0
+get /b --file text | /b: no such member at token 0
+get /c --file text --index index | /c: no such member at token 0
+get --lines /b --file text | line 1: /b: no such member at token 0
+get --lines /b --file cut | line 1: truncated
+each /a --file text | /a: not a container at token 1
+each --names /c --file text | /c: no such member at token 0
+each --file cut | truncated
+keys /a --file text | /a: not an object at token 1
+keys --file cut | truncated
+count /a --file text | /a: not a container at token 1
+count --file cut | truncated
+save cut | truncated
+save --depth 0 text | too deep at 0
+split --parts 2 /a --index index --file text | /a: not a container at token 1
+whole --to 1 --file text | run 0: not a run
+join --file empty | no runs
+LINES
+}
+
+a_message_names_its_input_and_its_pointer() {
+    local words told
+    printf '{"a":1}' >text
+    printf '{"a":[' >cut
+    : >empty
+    "$program" save text >index
+    while IFS='|' read -r words told; do
+        told=${told# }
+        case $words in
+        *cut*) told="cut: $told" ;;
+        *empty*) told="empty: $told" ;;
+        *) told="text: $told" ;;
+        esac
+        same "jx $words" "jx: $told" "$(eval "\"\$program\" $words" 2>&1 >/dev/null)"
+    done < <(messages)
+    same 'standard input' "$(lines 'status 1' 'out: ' 'out: ' 'err: jx: -: /b: no such member at token 0' 'err: jx: -: /c/d: no such member at token 0')" "$(said '{"a":1}' get /b /c/d)"
+    printf '[1' >'a: b'
+    same 'a name that has a colon and a space' "$(lines 'status 1' 'err: jx: a:\x20b: truncated')" "$(said '' save 'a: b')"
+    printf '{}' >$'a\nb'
+    same 'a name of two lines' "$(lines 'status 1' 'out: ' 'err: jx: a\x0Ab: /x: no such member at token 0')" "$(said '' get --file $'a\nb' /x)"
+    same 'a word that is no pointer' "$(lines 'status 2' 'err: jx: x: no slash: the first word is a pointer, and FILE the second')" "$(said '{}' each x)"
+}
+
+# The runtime opens files by text. Such a file is a fault of its own, in each command.
+a_name_that_is_not_utf_8_is_the_fault_of_its_file() {
+    local name=$'a\377b' fault='err: jx: a\xFFb: cannot open: Invalid argument' words
+    printf 'null' >read
+    for words in check 'check -l' 'check --format gnu' 'check --format json' explain index seq 'seq --live' lines 'lines --max 1' 'lines --pass' save 'part --file' 'join --file' 'whole --to 1 --file' 'at /0 --file' 'get /0 --file' 'get --lines /0 --file' \
+        'get -r /0 --pointers' 'at /0 --pointers' 'at /0 --file read --index' 'get /0 --file read --index' 'split --parts 1 --file read --index' 'lines --pass read --bad'; do
+        # shellcheck disable=SC2086
+        same "jx $words" "$(lines 'status 2' "$fault")" "$(said '[1]' $words "$name")"
+    done
+    same 'jx each' "$(lines 'status 2' "$fault")" "$(said '' each '' "$name")"
+    same 'its bytes are shown' "$(lines 'status 2' 'err: jx: é\xC3\xE2\x82.json: cannot open: Invalid argument')" "$(said '' check $'\303\251\303\342\202.json')"
+    same 'the others are read' "$(lines 'status 2' 'out: read: accepted' 'out: read: accepted' "$fault")" "$(said '' check read "$name" read)"
+    same 'explained' "$(lines 'status 2' 'out: read: accepted' 'out: read: accepted' "$fault")" "$(said '' explain read "$name" read)"
+    same 'line by line' "$(lines 'status 2' 'out: read: 1 0..4 may be cut' 'out: read: accepted 0, refused 1' "$fault")" "$(said '' lines "$name" read)"
+    for words in 'at' 'get' 'get --lines' 'each' 'keys' 'count' 'split --parts 1 --file read --index read'; do
+        # shellcheck disable=SC2086
+        has "a pointer of jx $words" "$(lines 'status 2' 'err: error: invalid UTF-8')" "$(said '1' $words $'/\377')"
+    done
+    has 'a word for no value' "$(lines 'status 2' 'err: error: invalid UTF-8')" "$(said '1' get --lines --format tsv --null $'\377' /a)"
 }
 
 a_byte_order_mark_is_refused_or_ignored() {
@@ -175,10 +239,12 @@ words_that_are_no_pointers_are_refused_before_a_read() {
 
 # An absolute path is a pointer too.
 each_asks_whether_a_word_is_a_file_or_a_pointer() {
-    local path
+    local path command
     path=$PWD/here.json
     printf '[1,2]' >"$path"
-    same 'the one word names a file' "$(lines 'status 2' "err: jx: $path: names a file: write jx each '' FILE, or jx each POINTER FILE")" "$(said '[1]' each "$path")"
+    for command in each keys count; do
+        same "the one word of $command names a file" "$(lines 'status 2' "err: jx: $path: names a file: write '' FILE, or POINTER FILE")" "$(said '[1]' $command "$path")"
+    done
     same 'a file behind an empty pointer' "$(lines 'status 0' 'out: 1' 'out: 2')" "$(said '' each '' "$path")"
     same 'a pointer that names no file' "$(lines 'status 0' 'out: 7')" "$(said '{"nowhere":[7]}' each /nowhere)"
 }
@@ -220,6 +286,8 @@ tests a_whole_answer_ends_with_status_0 \
     what_is_refused_or_not_found_ends_with_status_1 \
     quiet_has_the_same_status_and_no_output \
     a_fault_ends_with_status_2 \
+    a_message_names_its_input_and_its_pointer \
+    a_name_that_is_not_utf_8_is_the_fault_of_its_file \
     a_byte_order_mark_is_refused_or_ignored \
     names_may_have_to_be_unique \
     each_line_of_a_file_is_a_pointer \

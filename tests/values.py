@@ -8,6 +8,7 @@ import subprocess
 
 import counts
 from counts import HERE, PROGRAM, same
+from shown import shown_bytes
 
 TEXTS = 1500
 
@@ -30,7 +31,7 @@ def of_answers(lines, value_of):
         if found:
             output += value_of(found[1], int(found[2]), int(found[3]))
         else:
-            told += b"jx: %s: %s\n" % (pointer, answer)
+            told += b"jx: text: %s: %s\n" % (shown_bytes(pointer), answer)
         output += b"\n"
     return output, told, int(told != b"")
 
@@ -44,14 +45,14 @@ def is_misspelt(line):
 
 def of_text(settings, repeated, text, lines):
     for answer, pointer in filter(is_misspelt, lines):
-        told = b"jx: %s: %s%s\n" % (pointer, answer, b": a FILE stands behind --file" if answer == b"no slash" else b"")
+        told = b"jx: %s: %s%s\n" % (shown_bytes(pointer), answer, b": a FILE stands behind --file" if answer == b"no slash" else b"")
         same("a word %r that is no pointer" % pointer, (b"", told, 2), written(text, [], [b"", pointer]))
     lines = [line for line in lines if not is_misspelt(line)]
     words = ["--ignore-bom"] if settings == b"b" else []
     pointers = [pointer for _, pointer in lines]
     wanted = of_answers(lines, lambda kind, start, end: text[start:end])
     same("values of %r" % text, wanted, written(text, words, pointers))
-    unique = wanted if repeated == b"-" else (b"", b"jx: repeated name at %s\n" % repeated, 1)
+    unique = wanted if repeated == b"-" else (b"", b"jx: text: repeated name at %s\n" % repeated, 1)
     same("values of %r with unique names" % text, unique, written(text, [*words, "--unique-names"], pointers))
     for line in lines:
         wanted = of_answers([line], lambda kind, start, end: text[start:end])
@@ -66,7 +67,7 @@ def table():
             texts.append((settings, repeated, spelt(text), []))
         elif line.startswith(b"refused "):
             answer, _, text = line.removeprefix(b"refused ").partition(b":")
-            same("no value of %r" % text, (b"", b"jx: %s\n" % answer, 1), written(spelt(text), [], [b"", b"/x", b"/0"]))
+            same("no value of %r" % text, (b"", b"jx: text: %s\n" % answer, 1), written(spelt(text), [], [b"", b"/x", b"/0"]))
         elif line and not line.startswith(b"#"):
             answer, _, pointer = line.partition(b":")
             texts[-1][3].append((answer, spelt(pointer)))
@@ -149,12 +150,12 @@ def of_raw_values(asked, text):
     output = told = b""
     for pointer, _, compact, value in asked:
         if pointer == b"/no":
-            told += b"jx: /no: %s\n" % lost(text)
+            told += b"jx: text: /no: %s\n" % lost(text)
         elif isinstance(value, str):
             try:
                 output += value.encode()
             except UnicodeEncodeError:
-                told += b"jx: %s: half a surrogate pair\n" % pointer
+                told += b"jx: text: %s: half a surrogate pair\n" % shown_bytes(pointer)
         else:
             output += compact
         output += b"\n"
@@ -167,7 +168,7 @@ def random_texts():
         made = Spelling(chance)
         asked = [chance.choice(made.nodes + [(b"/no", b"", b"", None)]) for _ in range(chance.randrange(1, 6))]
         words = ["--workers", str(number % 3 + 1), "--piece", str(number % 7 + 1)]
-        told = b"".join(b"jx: /no: %s\n" % lost(made.text) for pointer, *_ in asked if pointer == b"/no")
+        told = b"".join(b"jx: text: /no: %s\n" % lost(made.text) for pointer, *_ in asked if pointer == b"/no")
         pointers = [pointer for pointer, *_ in asked]
         wanted = b"".join(text + b"\n" for _, text, _, _ in asked), told, int(told != b"")
         same("random text %d" % number, wanted, written(made.text, words, pointers))
@@ -179,12 +180,52 @@ def random_texts():
         same("what is read of random text %d" % number, value, json.loads(written(made.text, words, [pointer])[0]))
 
 
+# ---- values of texts that are read piece by piece
+
+
+class WideSpelling(Spelling):
+    """The same, with blanks and strings of which a few are as long as what the program reads at a time."""
+
+    def blanks(self):
+        return b" " * self.chance.choice([0] * 90 + [1, 3, 100000, 262144])
+
+    def string(self, pointer, depth):
+        text = b'"' + b"x" * self.chance.choice([0, 1, 5, 40, 150000]) + b'"'
+        return text, text
+
+
+def piped(text, pieces, pointers):
+    done = subprocess.Popen([PROGRAM, "get", "--", *pointers], stdin=subprocess.PIPE, stdout=subprocess.PIPE, stderr=subprocess.PIPE)
+    for start in range(0, len(text), pieces):
+        done.stdin.write(text[start : start + pieces])
+        done.stdin.flush()
+    output, told = done.communicate()
+    return output, told, done.returncode
+
+
+def values_of_pieces(spelling, chance, count, lengths):
+    for number in range(count):
+        made = spelling(chance)
+        asked = [chance.choice(made.nodes + [(b"/no", b"", b"", None)]) for _ in range(chance.choice([2, 5, 9, 64, 65]))]
+        told = b"".join(b"jx: -: /no: %s\n" % lost(made.text) for pointer, *_ in asked if pointer == b"/no")
+        wanted = b"".join(text + b"\n" for _, text, _, _ in asked), told, int(told != b"")
+        same("values of pieces %d of %s" % (number, spelling.__name__), wanted, piped(made.text, chance.choice(lengths), [pointer for pointer, *_ in asked]))
+
+
+def values_of_small_pieces():
+    values_of_pieces(Spelling, random.Random(64), 200, [1, 2, 3, 7, 50])
+
+
+def values_of_wide_texts():
+    values_of_pieces(WideSpelling, random.Random(65), 60, [65536, 262144, 1 << 30])
+
+
 # ---- elements
 
 
-def each_of(text, pieces, words=()):
+def each_of(text, pieces, words=(), command="each"):
     """What `each` writes and tells of a text that comes in pieces."""
-    done = subprocess.Popen([PROGRAM, "each", *words], stdin=subprocess.PIPE, stdout=subprocess.PIPE, stderr=subprocess.PIPE)
+    done = subprocess.Popen([PROGRAM, command, *words], stdin=subprocess.PIPE, stdout=subprocess.PIPE, stderr=subprocess.PIPE)
     for start in range(0, len(text), pieces):
         done.stdin.write(text[start : start + pieces])
         done.stdin.flush()
@@ -213,7 +254,7 @@ def elements_of_texts(spelling, chance, count):
         lines = [compact + b"\n" for pointer, _, compact, _ in made.nodes if pointer.count(b"/") == 1]
         pieces = chance.choice([1, 2, 3, 7, 50, 65536])
         is_container = made.text.strip()[:1] in (b"[", b"{")
-        told = b"" if is_container else b"jx: not a container at token 0\n"
+        told = b"" if is_container else b"jx: -: : not a container at token 0\n"
         same("elements of random text %d" % number, (b"".join(lines), told, int(not is_container)), each_of(made.text, pieces))
         if not is_container:
             continue
@@ -221,10 +262,10 @@ def elements_of_texts(spelling, chance, count):
         same("the ends of random text %d" % number, max(len(lines), 1), len(ends))
         cut = chance.randrange(len(made.text))
         due = b"".join(line for line, end in zip(lines, ends) if end < cut)
-        told = b"" if ends[-1] < cut else b"jx: truncated\n"
+        told = b"" if ends[-1] < cut else b"jx: -: truncated\n"
         same("elements of random text %d, cut at %d" % (number, cut), (due, told, int(told != b"")), each_of(made.text[:cut], pieces))
         faulty = made.text[:cut] + b"\0" + made.text[cut:]
-        same("elements of random text %d, a fault at %d" % (number, cut), (due, b"jx: stopped at %d\n" % cut, 1), each_of(faulty, pieces))
+        same("elements of random text %d, a fault at %d" % (number, cut), (due, b"jx: -: stopped at %d\n" % cut, 1), each_of(faulty, pieces))
 
 
 def elements_of_random_texts():
@@ -348,20 +389,26 @@ def elements_by_pointers(named=False):
         node, words = reached(root, tokens, named)
         lines = lines_of(node, named)
         pieces = chance.choice([1, 2, 3, 7, 65536])
-        told = b"jx: %s\n" % words if words else b""
+        told = b"jx: -: %s: %s\n" % (shown_bytes(pointer.encode()), words) if words else b""
         asked = ["--names"] * named + ([] if pointer == "" and chance.randrange(2) else [pointer])
         same("elements at %r of %r" % (pointer, text), (b"".join(line for line, _ in lines), told, int(told != b"")), each_of(text, pieces, asked))
+        if named:
+            names = b"".join(spelt + b"\n" for spelt in node.spelt) if lines else b""
+            same("names at %r of %r" % (pointer, text), (names, told, int(told != b"")), each_of(text, pieces, [pointer], "keys"))
+        else:
+            number = b"" if told else b"%d\n" % len(lines)
+            same("number at %r of %r" % (pointer, text), (number, told, int(told != b"")), each_of(text, pieces, [pointer], "count"))
         for line, pair in zip(lines, (node.children if named and lines else [])):
             same("what a line of %r says" % text, {"name": pair[0], "value": json.loads(text[pair[1].start : pair[1].end])}, json.loads(line[0]))
         cut = chance.randrange(len(text))
         due = b"".join(line for line, end in lines if end < cut)
-        same("elements at %r of %r, a fault at %d" % (pointer, text, cut), (due, b"jx: stopped at %d\n" % cut, 1), each_of(text[:cut] + b"\0" + text[cut:], pieces, asked))
+        same("elements at %r of %r, a fault at %d" % (pointer, text, cut), (due, b"jx: -: stopped at %d\n" % cut, 1), each_of(text[:cut] + b"\0" + text[cut:], pieces, asked))
 
 
 def members_by_pointers():
     elements_by_pointers(named=True)
 
 
-for test in (table, random_texts, elements_of_random_texts, elements_of_long_texts, elements_by_pointers, members_by_pointers):
+for test in (table, random_texts, values_of_small_pieces, values_of_wide_texts, elements_of_random_texts, elements_of_long_texts, elements_by_pointers, members_by_pointers):
     test()
 counts.ended()

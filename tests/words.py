@@ -3,10 +3,11 @@
     words       a file has more words of tools/words_to_avoid.txt than tests/words.txt records
     found FILE  which they are, a line each
     renew       records how many there are now
-    sentences   sentences of more than 30 words in docs, READMEs and CHANGELOG.md
+    sentences   sentences of more than 30 words in docs, READMEs, CHANGELOG.md and the comments of jx.h
     size        docs and the READMEs of crates have at most 300 KB, README.md 13,000 bytes, some pages less; an entry of CHANGELOG.md two
                 lines, and the glossary thirty terms
     links       a link between documents leads to a file and to a heading
+    comments    a comment of a crate or a binding that begins with `What`, and so does not name what a call gives
 
 Of a document all words count but code. Of a crate the comments in src/ and specs/ count, all together, and of a binding its doc comments.
 """
@@ -136,12 +137,20 @@ def sentences_of(text):
         yield from re.split(r"(?<=[.:?!;])(?:\*\*)? +(?=[\[(*`\"A-Z0-9])", " ".join(paragraph.split()))
 
 
+def passages_of(path):
+    """What is divided into sentences: a page, or each comment of jx.h."""
+    if path.endswith(".md"):
+        return [text_of(path)]
+    if path.endswith(".h"):
+        return [re.sub(r"^ \* ?", "", comment, flags=re.M) for comment in re.findall(r"/\*(.*?)\*/", text_of(path), re.S)]
+    return []
+
+
 def wrong_sentences():
     for path in documents():
-        if path.endswith(".md"):
-            for sentence in sentences_of(text_of(path)):
-                if len(sentence.split()) > SENTENCE:
-                    yield "%s: %d words: %s" % (path, len(sentence.split()), sentence)
+        for sentence in (sentence for passage in passages_of(path) for sentence in sentences_of(passage)):
+            if len(sentence.split()) > SENTENCE:
+                yield "%s: %d words: %s" % (path, len(sentence.split()), sentence)
 
 
 def wrong_size():
@@ -177,8 +186,27 @@ def wrong_links():
                 yield "%s: %s has no such heading" % (path, link)
 
 
+def begins_with_what(path, sign):
+    """The comments of a file, by the pattern of their sign, whose first line begins with `What`, by the number of that line."""
+    begun = re.compile(r"\s*(?:%s)" % sign)
+    lines = path.read_text().splitlines()
+    for number, line in enumerate(lines):
+        found = begun.match(line)
+        begins = found and not (number and lines[number - 1].strip().startswith(found.group(0).strip()))
+        if begins and re.match(r" ?[Ww]hat\b", line[found.end() :]):
+            yield "%s:%d: a comment begins with `What`: %s" % (path.relative_to(ROOT), number + 1, line.strip())
+
+
+def wrong_comments():
+    signs = {"crates/*/src/**/*.rt": "//[/!]?", "crates/*/specs/**/*.antt": "--", "bindings/**/*.rs": "//[/!]?"}
+    signs.update({"bindings/**/*.py": '"""', "bindings/**/*.pyi": '"""'})
+    for pattern, sign in signs.items():
+        for path in sorted(ROOT.glob(pattern)):
+            yield from begins_with_what(path, sign)
+
+
 def main(words):
-    questions = {"words": wrong_words, "sentences": wrong_sentences, "size": wrong_size, "links": wrong_links}
+    questions = {"words": wrong_words, "sentences": wrong_sentences, "size": wrong_size, "links": wrong_links, "comments": wrong_comments}
     if words == ["renew"]:
         renew()
     elif words[:1] == ["found"] and words[1:]:

@@ -182,7 +182,8 @@ def joined(names):
 def default_of(commands, option, names, quote=""):
     """The default of an option of these commands, and of each that has another one."""
     others = [(command.name, its.default) for command in commands if command.name in names for its in command.options if its.head == option.head and its.default != option.default]
-    return ", ".join([option.default] + ["of %s%s%s %s" % (quote, name, quote, default) for name, default in others])
+    of = ["of %s %s" % (joined([quote + name + quote for name, its in others if its == default]), default) for default in dict.fromkeys(default for _, default in others)]
+    return ", ".join([option.default] + of)
 
 
 def text_of(option):
@@ -349,11 +350,16 @@ def begun_small(text):
     return text[:1].lower() + text[1:]
 
 
+def within_quotes(text):
+    """The text between single quotes, as shells read it."""
+    return text.replace("'", "'\\''")
+
+
 def zsh_option(option):
     kind = kind_of(option)
     value = {None: "", "file": ":file:_files", "number": ":number:"}.get(kind, ":word:(%s)" % kind)
     takes = "=" if kind else ""
-    told = "[%s]%s'" % (begun_small(option.short), value)
+    told = "[%s]%s'" % (within_quotes(begun_small(option.short)), value)
     if len(option.flags) == 1:
         return "'" + option.name + takes + told
     return "'(%s)'{%s}'%s%s" % (" ".join(option.flags), ",".join(option.flags), takes, told)
@@ -370,7 +376,7 @@ def zsh_case(command):
 
 def zsh(commands):
     return ZSH % {
-        "commands": "\n".join("            '%s[%s]' \\" % (command.name, begun_small(command.about)) for command in commands),
+        "commands": "\n".join("            '%s[%s]' \\" % (command.name, within_quotes(begun_small(command.about))) for command in commands),
         "cases": "\n".join(zsh_case(command) for command in commands),
         "names": " ".join(command.name for command in commands),
     }
@@ -393,13 +399,13 @@ def fish_option(option, names):
     kind = kind_of(option)
     value = {None: "", "file": " -r -F", "number": " -x"}.get(kind, " -x -a '%s'" % kind)
     letter = " -s " + option.flags[0][1:] if len(option.flags) > 1 else ""
-    return "complete -c jx -n '__fish_seen_subcommand_from %s'%s -l %s%s -d '%s'" % (" ".join(names), letter, option.name[2:], value, option.short)
+    return "complete -c jx -n '__fish_seen_subcommand_from %s'%s -l %s%s -d '%s'" % (" ".join(names), letter, option.name[2:], value, within_quotes(option.short))
 
 
 def fish(commands):
     options = merged(commands, "options", lambda option: (option.head, option.short))
     return FISH % {
-        "commands": "\n".join("complete -c jx -n __fish_use_subcommand -a %s -d '%s'" % (command.name, command.about) for command in commands),
+        "commands": "\n".join("complete -c jx -n __fish_use_subcommand -a %s -d '%s'" % (command.name, within_quotes(command.about)) for command in commands),
         "options": "\n".join(fish_option(option, names) for option, names in options),
         "takers": " ".join(command.name for command in commands if command.takes_files()),
         "names": " ".join(command.name for command in commands),

@@ -1,6 +1,7 @@
 /* The calls that jx.h defines inline, as symbols of the library: for languages that look names up and read no header. */
 #define jx_status_name jx_status_name_inline
 #define jx_check jx_check_inline
+#define jx_explain jx_explain_inline
 #define jx_compact jx_compact_inline
 #define jx_reader_start jx_reader_start_inline
 #define jx_at jx_at_inline
@@ -59,6 +60,7 @@
 #include "jx.h"
 #undef jx_status_name
 #undef jx_check
+#undef jx_explain
 #undef jx_compact
 #undef jx_reader_start
 #undef jx_at
@@ -119,6 +121,11 @@ const char *jx_status_name(uint32_t status) { return jx_status_name_inline(statu
 
 uint32_t jx_check(const uint8_t *text, size_t size, const jx_settings *settings, jx_verdict *verdict) {
     return jx_check_inline(text, size, settings, verdict);
+}
+
+uint32_t jx_explain(const uint8_t *text, size_t size, const jx_settings *settings, const jx_verdict *verdict, uint8_t *sentence,
+                    size_t room, size_t *sentence_size, jx_place *place) {
+    return jx_explain_inline(text, size, settings, verdict, sentence, room, sentence_size, place);
 }
 
 uint32_t jx_compact(const uint8_t *text, size_t size, const jx_settings *settings, uint8_t *compact, size_t room,

@@ -18,7 +18,7 @@
 /* From so many bytes on, other threads of Python run while a text is read. */
 #define WORTH_A_SWITCH 16384
 
-/* What the package handed in. */
+/* The objects that the package handed in. */
 static struct {
     __typeof__(&jx_check_non_null) check;
     __typeof__(&jx_compact_non_null) compact;

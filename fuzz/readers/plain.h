@@ -27,6 +27,12 @@ size_t plain_lines(const uint8_t *bytes, size_t size, const jx_settings *setting
 /* Writes the tokens of an accepted text one behind another, and tells their size, which is at most the text's. A mark is left out. */
 size_t plain_compact(const uint8_t *text, size_t size, uint8_t *form);
 
+/* Writes the names of all that may stand behind the first bytes of a text: `A, B or C`. It tries each byte. Tells their size. */
+size_t plain_choices(const uint8_t *text, size_t at, uint32_t flags, char *names, size_t room);
+
+/* The line and the column of an offset. */
+jx_place plain_place(const uint8_t *text, size_t at);
+
 /* Writes the values of the array or object that a pointer leads to, each in compact form with a line feed behind it: those that are due of
  * bytes with this verdict. A pointer goes by the first member of each name. Tells how many bytes are written: no more than there are. */
 size_t plain_values(const uint8_t *bytes, size_t size, const jx_verdict *verdict, const uint8_t *pointer, size_t pointer_size,

@@ -16,6 +16,7 @@ void join_runs(input *in);           /* up to 12 parts, joined in any order */
 void forge_runs(input *in);          /* fields of runs are changed and sealed: refused, or with the verdict that docs/FORMAT.md gives them */
 void take_any_runs(input *in);       /* any bytes as runs */
 void compact_texts(input *in);       /* too little, just enough and more room; the form reads as the same values */
+void explain_texts(input *in);       /* too little, just enough and more room; the sentence names all that may stand there */
 void feed_lines(input *in);          /* cut anywhere, too little and just enough room; a reader that wants memory is lost */
 void feed_values(input *in);         /* cut anywhere, several pointers; what was taken is what is due; a stream that wants memory is lost */
 void find_in_saved(input *in);       /* chunks from 64 bytes, changed chunks told, the answers of the text, the parts of a container */

@@ -36,6 +36,15 @@ static void compact(void) {
     expect(jx_compact(bytes(text), size, &settings, room, ROOM, &told, &verdict) == JX_OK, "compact", 0);
 }
 
+/* Of the text without its end, and of a name. */
+static void explain(void) {
+    jx_verdict verdict;
+    jx_place place;
+    size_t told;
+    expect(jx_check(bytes(text), size - 1, &settings, &verdict) == JX_OK && jx_explain(bytes(text), size - 1, &settings, &verdict, room, ROOM, &told, &place) == JX_OK, "explain", 0);
+    expect(jx_explain(bytes(text), size, &settings, &(jx_verdict){1, JX_REPEATED_NAME}, room, ROOM, &told, &place) == JX_OK, "explain a name", 0);
+}
+
 static void read_by_slices(void) {
     static jx_reader reader;
     jx_verdict verdict;
@@ -162,7 +171,7 @@ static void write_text(void) {
 
 /* How many bytes a call takes at most, of texts as deep as this. */
 static size_t most_by(uint32_t depth) {
-    static void (*const calls[])(void) = {check, compact, read_by_slices, look_up, index_it, values_and_lines, save_and_find, edit, join_runs};
+    static void (*const calls[])(void) = {check, compact, explain, read_by_slices, look_up, index_it, values_and_lines, save_and_find, edit, join_runs};
     const size_t thread = taken_by(nothing);
     size_t most = 0;
     any.depth = settings.depth = depth;

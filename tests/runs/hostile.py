@@ -132,7 +132,8 @@ def fault_in(command, stream, depth):
             said = line(runs, start)
             wanted = (0 if said == "accepted\n" else 1, said.encode(), b"")
     except Refused as why:
-        wanted, start = (2, b"", b"jx: %s\n" % str(why).encode()), 0
+        of = "" if str(why) == "out of memory" else "-: "
+        wanted, start = (2, b"", b"jx: %s%s\n" % (of.encode(), str(why).encode())), 0
     words = ["whole", "--from", str(start), "--to", str(to)] if command == "whole" else ["join"]
     done = subprocess.run([PROGRAM, *words, "--depth", str(depth)], input=stream, capture_output=True, timeout=SECONDS, close_fds=False)
     got = (done.returncode, done.stdout, done.stderr)

@@ -50,10 +50,26 @@ fn settings_count() {
     );
     assert_eq!(
         said(b"{\"a\":1,\"a\":2}", ignored),
-        "an earlier member of the object has this name"
+        "the name \"a\" was used at line 1, column 2"
     );
     assert_eq!(
         Refusal::Stopped { at: 9 }.sentence(b"[1", ignored),
-        "the text ends where a digit, a decimal point, an exponent, a comma or ] is expected"
+        "stopped at 9"
+    );
+}
+
+#[test]
+fn a_long_name_is_said_in_full() {
+    let name = "n".repeat(1000);
+    let unique = Settings {
+        unique_names: true,
+        ..Settings::default()
+    };
+    assert_eq!(
+        said(
+            format!("{{\"{name}\":1,\n\"{name}\":2}}").as_bytes(),
+            unique
+        ),
+        format!("the name \"{name}\" was used at line 1, column 2")
     );
 }

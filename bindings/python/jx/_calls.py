@@ -1,4 +1,4 @@
-"""What `native.c` does, by `ctypes`: where it is not built, or Python is older than 3.11."""
+"""The calls of `native.c`, by `ctypes`: where it is not built, or Python is older than 3.11."""
 from __future__ import annotations
 
 import array
@@ -36,7 +36,7 @@ def compact(data: Buffer, depth: int, ignore_bom: bool, unique_names: bool) -> U
 
 
 def at(data: Buffer, pointer: str, depth: int, ignore_bom: bool, unique_names: bool) -> Tuple[int, int, int, int]:
-    """What a pointer leads to: the outcome, the number or offset that goes with it, and where the value starts and ends."""
+    """The answer to a pointer: the outcome, the number or offset that goes with it, and where the value starts and ends."""
     asked = settings(depth, ignore_bom, unique_names)
     words = _spelt(pointer)
     answer = CAnswer()

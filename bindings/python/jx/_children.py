@@ -74,7 +74,7 @@ class Children:
         return scalar_of(self._data[start - self._start : end - self._start])
 
     def find(self, pointer: str) -> Answer:
-        """What a pointer leads to from the container. A `UnicodeEncodeError` where it has half of a surrogate pair."""
+        """The value that a pointer leads to from the container. A `UnicodeEncodeError` where it has half of a surrogate pair."""
         found = self._index._rows.find(pointer)
         return (FOUND, 0, *self._place_of(found)) if isinstance(found, int) else (*found, 0, 0, 0)
 

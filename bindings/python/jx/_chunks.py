@@ -21,7 +21,7 @@ def slices(data: memoryview) -> Chunks:
 
 
 def read_some(file: Any) -> Buffer:
-    """What is there, without waiting for more; nothing at the end."""
+    """The bytes that are there, without waiting for more; nothing at the end."""
     if type(file) in _BUFFERED:
         # Where a file has no bytes yet, `read1` answers as at the end, and `readinto1` does not.
         room = bytearray(_STEP)
@@ -62,7 +62,7 @@ def refuse_words(file: Any) -> None:
 
 
 def bytes_of(read: Any) -> Buffer:
-    """What a file's `read` gave. None is no end: the file does not block, and its bytes are still to come."""
+    """The bytes that a file's `read` gave. None is no end: the file does not block, and its bytes are still to come."""
     if read is None:
         _refuse_none()
     if isinstance(read, str):

@@ -7,7 +7,7 @@ import threading
 import weakref
 from typing import Any, Tuple, Union, overload
 
-from ._faults import Kind, Place, Refused, Verdict, message_of
+from ._faults import Kind, Place, Refused, Verdict, message_of, refused_in
 from ._library import DEPTH_DEFAULT, LIBRARY, Buffer, CDocument, CVerdict, Status, done, held, settings
 from ._sentence import Front
 
@@ -50,6 +50,8 @@ class Document:
         if found:
             return
         offset = len(self) if found.kind is Kind.TRUNCATED else found.offset
+        if len(self) <= _STEP:
+            raise refused_in(memoryview(self._bytes(0, len(self))), found, *self._front)
         place, front = Place(), Front(*self._front)
         for start in range(0, offset, _STEP):
             part = self._bytes(start, min(start + _STEP, offset))

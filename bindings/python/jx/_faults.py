@@ -5,9 +5,8 @@ import dataclasses
 import enum
 from typing import Any, Dict, NoReturn, Optional, Type
 
-from ._sentence import Front
+from ._sentence import Front, explained
 
-_STEP = 1 << 20
 _CONTINUATIONS = bytes(range(0x80, 0xC0))
 
 
@@ -123,27 +122,16 @@ class Place:
         return self.lineno, self.colno
 
 
-def place_in(data: memoryview, offset: int) -> tuple[int, int]:
-    """The line and the column of an offset, both from 1. Copies a MiB at a time."""
-    place = Place()
-    for start in range(0, offset, _STEP):
-        place.go_over(bytes(data[start : min(start + _STEP, offset)]))
-    return place.told()
-
-
 def refused_in(data: memoryview, verdict: Verdict, depth: int, ignore_bom: bool) -> Refused:
     """The refusal of these bytes, with its place and what may stand there."""
     offset = len(data) if verdict.kind is Kind.TRUNCATED else verdict.offset
-    front = Front(depth, ignore_bom)
-    front.read(data[:offset])
-    return Refused(verdict, offset, place_in(data, offset), msg=message_of(verdict.kind, front, bytes(data[offset : offset + 4])))
+    sentence, place = explained(data, verdict.kind, verdict.offset, depth, ignore_bom)
+    return Refused(verdict, offset, place, msg=sentence)
 
 
-def message_of(kind: Kind, front: Front, rest: bytes) -> Optional[str]:
-    """What is wrong at a place, by the bytes before it and some after it; None of a name, whose first use only another reading finds."""
-    if kind is Kind.TOO_DEEP:
-        return front.too_deep()
-    return front.sentence(rest) if kind in (Kind.STOPPED, Kind.TRUNCATED) else None
+def message_of(kind: Kind, front: Front, rest: bytes) -> str:
+    """The sentence that says what is wrong at a place, by the bytes before it and some after it."""
+    return front.too_deep() if kind is Kind.TOO_DEEP else front.sentence(rest)
 
 
 class BadPointer(ValueError):

@@ -65,7 +65,7 @@ class Finder:
     def end(self, default: T) -> List[Union[Found, T]]: ...
 
     def end(self, default: Any = RAISE) -> List[Any]:
-        """What the pointers lead to in the text of all bytes, in order. It ends the look-up.
+        """The answers to the pointers in the text of all bytes, in order. It ends the look-up.
 
         Raises `Refused`, without line and column, if the bytes are not valid JSON; `BadPointer` if one is no pointer; and a `NotFound`
         where one leads to no value, unless there is a default.
@@ -126,7 +126,7 @@ def find_file(
     depth: int = DEPTH_DEFAULT,
     ignore_bom: bool = False,
 ) -> List[Any]:
-    """What pointers lead to in a file, by its path or open for reading bytes, or in any chunks of bytes: in constant memory.
+    """The answers to pointers in a file, by its path or open for reading bytes, or in any chunks of bytes: in constant memory.
 
     The values are spans: `file.seek(found.start)` leads to the first byte of one. The words are those of `Finder`. The file's own
     faults are raised where they happen, and a `BlockingIOError` where it does not block and has no bytes yet.

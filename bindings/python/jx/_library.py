@@ -67,6 +67,10 @@ class CVerdict(ctypes.Structure):
     _fields_ = [("offset", ctypes.c_size_t), ("kind", ctypes.c_uint32)]
 
 
+class CPlace(ctypes.Structure):
+    _fields_ = [("line", ctypes.c_size_t), ("column", ctypes.c_size_t)]
+
+
 class CReader(ctypes.Structure):
     _fields_ = [("words", ctypes.c_uint64 * 1031)]
 
@@ -149,6 +153,7 @@ _POINTER = ctypes.c_void_p
 _SIZE = ctypes.c_size_t
 _CALLS = {
     "jx_check_non_null": [_POINTER, _SIZE, _POINTER, _POINTER],
+    "jx_explain_non_null": [_POINTER, _SIZE, _POINTER, _POINTER, _POINTER, _SIZE, _POINTER, _POINTER],
     "jx_compact_non_null": [_POINTER, _SIZE, _POINTER, _POINTER, _SIZE, _POINTER, _POINTER],
     "jx_reader_start_non_null": [_POINTER, _POINTER],
     "jx_reader_feed": [_POINTER, _POINTER, _SIZE],

@@ -1,4 +1,4 @@
-"""What `native.c` has. `_calls.py` says what each call does."""
+"""The types of `native.c`. `_calls.py` says what each call does."""
 from typing import Optional, Tuple, Union
 
 from ._library import Buffer

@@ -45,7 +45,7 @@ def _checked(status: int) -> None:
 
 
 def _written(call: Callable[..., int], *words: Any) -> bytes:
-    """What a call writes into a buffer, which is made larger where the call asks for it."""
+    """The bytes that a call writes into a buffer, which is made larger where the call asks for it."""
     size = ctypes.c_size_t(_ROOM)
     while True:
         # Memory that `ctypes` cannot have is a MemoryError.

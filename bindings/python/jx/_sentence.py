@@ -1,14 +1,19 @@
-"""What is wrong with a refused text, in the words of `jx explain`. What may stand at the place is asked of the library, byte by byte."""
+"""The sentence that says what is wrong with a refused text, in the words of `jx explain`.
+
+The library says it of a text that is there. Of one that comes in parts, it is asked byte by byte what may stand at the place.
+"""
 from __future__ import annotations
 
 import ctypes
 import re
 import unicodedata
-from typing import List
+from typing import List, Tuple
 
-from ._library import LIBRARY, CReader, CVerdict, done, held, settings
+from ._library import LIBRARY, CPlace, CReader, CVerdict, done, held, settings
 
 _STOPPED = 1
+# Most sentences are shorter: only one with a long name is not.
+_ROOM = 256
 # Categories of characters that take no column: controls, format characters, marks, separators of lines and paragraphs.
 _NO_WIDTH = ("Cc", "Cf", "Mn", "Me", "Zl", "Zp")
 _IN_WORDS = {"\n": "the end of the line", "\r": "a carriage return", "\t": "a tab", " ": "a space", ",": "a comma", ":": "a colon", ".": "a point"}
@@ -42,6 +47,22 @@ _CHOICES = (
 _ASKED = frozenset(byte for _, those, others in _CHOICES for byte in those + others)
 
 
+def explained(data: memoryview, kind: int, offset: int, depth: int, ignore_bom: bool) -> Tuple[str, Tuple[int, int]]:
+    """The sentence on a text that has this verdict; and the line and the column, both from 1."""
+    asked, verdict, place, size = settings(depth, ignore_bom, False), CVerdict(offset, kind), CPlace(), ctypes.c_size_t(_ROOM)
+    sentence = b""
+    with held(data) as (address, count):
+        while len(sentence) < size.value:
+            room = ctypes.create_string_buffer(size.value)
+            done(
+                LIBRARY.jx_explain_non_null(
+                    address, count, ctypes.byref(asked), ctypes.byref(verdict), room, len(room), ctypes.byref(size), ctypes.byref(place)
+                )
+            )
+            sentence = room.raw[: size.value]
+    return sentence.decode(), (place.line, place.column)
+
+
 class Front:
     """The bytes of a text before a place, which come in parts."""
 
@@ -60,7 +81,7 @@ class Front:
         return "more than %d containers open" % self._depth
 
     def sentence(self, rest: bytes) -> str:
-        """What is wrong with a text that stops there, by the bytes after the place; or without any, with one that ends too early."""
+        """The sentence on a text that stops there, by the bytes after the place; or without any, on one that ends too early."""
         may = frozenset(byte for byte in _ASKED if self._goes_on(byte))
         named = [words for words, those, others in _CHOICES if may.issuperset(those) and may.isdisjoint(others)]
         if not self._size and rest.startswith(b"\xef\xbb\xbf"):

@@ -145,6 +145,8 @@ def _check_chunks(file: Any, start: Optional[int], depth: int, ignore_bom: bool)
     place, front, left, rest = Place(), Front(depth, ignore_bom), offset, b""
     for chunk in chunks_in(file, read_much):
         whole = view(chunk)
+        if left == offset and min(offset + 4, reader._size) <= len(whole):
+            raise refused_in(whole, found, depth, ignore_bom)
         part, rest = whole[:left], bytes(whole[left : left + 4])
         place.go_over(bytes(part))
         front.read(part)

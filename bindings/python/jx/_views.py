@@ -166,7 +166,7 @@ class View:
         return _valued(self._text, None if self.pointer is None else self.pointer + pointer, kind, start, end)
 
     def _look_up(self, pointer: str) -> Answer:
-        """What a pointer leads to from here: by the bytes where they are few, else by the library, which begins at the root."""
+        """The value that a pointer leads to from here: by the bytes where they are few, else by the library, which begins at the root."""
         if self._size() <= _NEAR:
             return self._look_near(pointer)
         _refuse_no_slash(pointer)

@@ -18,7 +18,7 @@ MEMBERS = [b'{"v":1}', b"[" + b",".join(ROWS) + b"]"]
 
 
 def given(values):
-    """What is given, and what is raised behind it."""
+    """The values that are given, and the exception that is raised after them."""
     got = []
     try:
         for value in values:

@@ -18,7 +18,7 @@ from .test_values import BAD, FOUND, NOT_FOUND, TEXT
 
 
 def plain(value):
-    """What the bytes of a value come to, by its children alone."""
+    """The value of some bytes, by its children alone."""
     if value.kind is jx.ValueKind.OBJECT:
         return {name: plain(child) for name, child in value.items()}
     if value.kind is jx.ValueKind.ARRAY:

@@ -100,6 +100,23 @@ class Places(unittest.TestCase):
         with self.assertRaises(jx.Refused) as caught:
             jx.check(b"\xef\xbb1", ignore_bom=True)
         self.assertEqual(caught.exception.msg, "a byte order mark is begun and not ended")
+        with self.assertRaises(jx.Refused) as caught:
+            jx.check(b'{"a":1,\n "\\u0061":2}', unique_names=True)
+        self.assertEqual(caught.exception.msg, 'the name "a" was used at line 1, column 2')
+
+    def test_a_sentence_of_a_long_file_is_that_of_its_text(self):
+        """Where the fault is far from the front, the text is not kept."""
+        front = b"[" + b"1,\n" * 400000
+        for end in (b"01]", b"", b'{"a" 1', b"tru", b"[" * 512, b'"\xe9"'):
+            text = front + end
+            with self.assertRaises(jx.Refused) as whole:
+                jx.check(text)
+            with self.assertRaises(jx.Refused) as parts:
+                jx.check_file(io.BytesIO(text))
+            with self.assertRaises(jx.Refused) as edited:
+                jx.Document(text).check()
+            self.assertEqual(str(parts.exception), str(whole.exception))
+            self.assertEqual(str(edited.exception), str(whole.exception))
 
 
 class Settings(unittest.TestCase):

@@ -1,4 +1,4 @@
-"""What a checker of types says of calls of the package: `mypy --strict` accepts this file, and would refuse it without its comments."""
+"""Calls of the package for a checker of types: `mypy --strict` accepts this file, and would refuse it without its comments."""
 import mmap
 import pathlib
 from typing import List, Optional, Tuple, Union, assert_type

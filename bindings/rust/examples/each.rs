@@ -15,7 +15,7 @@ fn main() -> Result<(), Box<dyn Error>> {
                 out.write_all(b"\n")?;
             }
             Err(error) => {
-                // What is due was written, and stays.
+                // The output that was due is written, and stays.
                 out.flush()?;
                 return Err(error.into());
             }

@@ -1,4 +1,4 @@
-//! What edits of a file cost, each with its verdict, and beside them a check of all of it:
+//! The cost of edits of a file, each with its verdict, and beside them a check of all of it:
 //! `cargo run --release --example edits FILE`. Places are random, and the same in each run; each edit is undone by another one.
 
 use jx::{Document, Settings};

@@ -144,7 +144,7 @@ impl From<OutOfMemory> for FileError {
 }
 
 impl FileError {
-    /// What a status says of the bytes there.
+    /// The fault by the status of a call on the bytes there.
     fn of(status: u32, bytes: Range<usize>) -> Result<(), FileError> {
         Err(match status {
             raw::NO_MEMORY => FileError::OutOfMemory,
@@ -255,7 +255,7 @@ impl<R: ReadAt> File<R> {
         all.remove(0).map_err(FileError::Find)
     }
 
-    /// What each of many pointers leads to, in their order. Each chunk that has to be read is read once.
+    /// The answers to many pointers, in their order. Each chunk that has to be read is read once.
     ///
     /// # Errors
     ///

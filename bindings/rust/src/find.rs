@@ -10,14 +10,14 @@ use std::ops::Range;
 /// The value that a pointer leads to.
 #[derive(Clone, Debug, PartialEq, Eq, Hash)]
 pub struct Found {
-    /// What it is.
+    /// The kind of the value.
     pub kind: Kind,
     /// Where it stands: a string with its quotation marks, a container with its brackets.
     pub span: Range<usize>,
 }
 
 impl Found {
-    /// What an answer of the library says.
+    /// The answer of the library.
     pub(crate) fn of(answer: &raw::Answer) -> Result<Found, FindError> {
         FindError::of(answer.outcome, answer.at)?;
         Ok(Found {
@@ -74,7 +74,7 @@ pub enum FindError {
 }
 
 impl FindError {
-    /// What an outcome of the library says.
+    /// The outcome of the library.
     pub(crate) fn of(outcome: u32, at: usize) -> Result<(), FindError> {
         let token = at;
         Err(match outcome {
@@ -122,7 +122,7 @@ impl Error for FindError {
     }
 }
 
-/// What a pointer (RFC 6901) leads to in a JSON text by settings.
+/// The value that a pointer (RFC 6901) leads to in a JSON text by settings.
 ///
 /// # Errors
 ///
@@ -158,7 +158,7 @@ pub fn find(text: &[u8], pointer: &str, settings: impl Into<Settings>) -> Result
     Found::of(&answer)
 }
 
-/// What each of many pointers leads to, in their order. The text is read once for all of them, and twice where names have to be
+/// The answers to many pointers, in their order. The text is read once for all of them, and twice where names have to be
 /// unique.
 ///
 /// # Errors

@@ -67,7 +67,7 @@ impl From<FeedError> for io::Error {
 /// ```
 pub struct Finder {
     raw: raw::Finder,
-    // What the library reads until the look-up ends: the list leads to the bytes. Neither is touched before that.
+    // The pointers that the library reads until the look-up ends: the list leads to the bytes. Neither is touched before that.
     spelt: Vec<raw::Pointer>,
     _bytes: Vec<u8>,
 }
@@ -145,7 +145,7 @@ impl Finder {
         })
     }
 
-    /// What each pointer leads to in the text of all bytes that it was fed, in their order, as [`crate::find`] gives it.
+    /// The answer to each pointer in the text of all bytes that it was fed, in their order, as [`crate::find`] gives it.
     ///
     /// # Errors
     ///

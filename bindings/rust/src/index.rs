@@ -40,7 +40,7 @@ pub struct Index<'a> {
 /// The value that a pointer leads to in an index.
 #[derive(Clone, Debug, PartialEq, Eq, Hash)]
 pub struct Value<'a> {
-    /// What it is.
+    /// The kind of the value.
     pub kind: Kind,
     /// Where it stands in the text.
     pub span: Range<usize>,
@@ -101,7 +101,7 @@ impl<'a> Index<'a> {
         Ok(index)
     }
 
-    /// What the library writes to, for a call that may take the index.
+    /// The struct that the library writes to, for a call that may take the index.
     pub(crate) fn raw(&mut self) -> &mut raw::Index {
         self.raw.get_mut()
     }

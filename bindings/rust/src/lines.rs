@@ -234,8 +234,8 @@ impl Lines {
         }
     }
 
-    /// The report that is left if the input ends here: the last line, if no line feed ends it and it is not valid JSON, and how many lines
-    /// there are, with that one and those that wait. More may be fed.
+    /// The report that is left if the input ends here: the last line, if no line feed ends it and it is not valid JSON, and the number of
+    /// lines. That counts the last one and those that wait. More may be fed.
     ///
     /// # Errors
     ///

@@ -1,4 +1,4 @@
-//! What the library exports, as `jx.h` declares it: for pointers of which none is null.
+//! The exports of the library, as `jx.h` declares them: for pointers of which none is null.
 
 use std::ffi::c_void;
 use std::ptr;
@@ -8,6 +8,13 @@ use std::ptr;
 pub struct Verdict {
     pub offset: usize,
     pub kind: u32,
+}
+
+#[repr(C)]
+#[derive(Clone, Copy, Default)]
+pub struct Place {
+    pub line: usize,
+    pub column: usize,
 }
 
 #[repr(C)]
@@ -270,6 +277,16 @@ extern "C" {
         size: usize,
         settings: *const Settings,
         verdict: *mut Verdict,
+    ) -> u32;
+    pub fn jx_explain_non_null(
+        text: *const u8,
+        size: usize,
+        settings: *const Settings,
+        verdict: *const Verdict,
+        sentence: *mut u8,
+        room: usize,
+        sentence_size: *mut usize,
+        place: *mut Place,
     ) -> u32;
     pub fn jx_compact_non_null(
         text: *const u8,

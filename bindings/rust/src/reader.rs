@@ -21,7 +21,7 @@ use std::io;
 /// # Ok::<(), Box<dyn std::error::Error>>(())
 /// ```
 ///
-/// Whatever writes into an [`io::Write`] feeds one, as [`io::copy`] does:
+/// Any code that writes into an [`io::Write`] feeds one, as [`io::copy`] does:
 ///
 /// ```
 /// let mut reader = jx::Reader::new(jx::DEPTH)?;

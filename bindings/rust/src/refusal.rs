@@ -35,6 +35,16 @@ impl Refusal {
             _ => Err(Refusal::Truncated),
         }
     }
+
+    pub(crate) fn raw(self) -> raw::Verdict {
+        let (kind, offset) = match self {
+            Refusal::Stopped { at } => (raw::STOPPED, at),
+            Refusal::Truncated => (raw::TRUNCATED, 0),
+            Refusal::TooDeep { at } => (raw::TOO_DEEP, at),
+            Refusal::RepeatedName { at } => (raw::REPEATED_NAME, at),
+        };
+        raw::Verdict { offset, kind }
+    }
 }
 
 impl fmt::Display for Refusal {

@@ -4,7 +4,7 @@ use crate::refusal::Refusal;
 use crate::settings::Settings;
 use std::ops::Range;
 
-/// What a value is (RFC 8259, section 3).
+/// The kind of a value (RFC 8259, section 3).
 #[derive(Clone, Copy, Debug, PartialEq, Eq, Hash)]
 #[allow(missing_docs)]
 pub enum Kind {
@@ -34,7 +34,7 @@ impl Kind {
 /// A value of a text. Spans are byte offsets in the text.
 #[derive(Clone, Debug, PartialEq, Eq, Hash)]
 pub struct Row {
-    /// What it is.
+    /// The kind of the value.
     pub kind: Kind,
     /// Where it stands: a string with its quotation marks, a container with its brackets.
     pub span: Range<usize>,

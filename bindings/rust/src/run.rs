@@ -70,7 +70,7 @@ impl RunError {
     }
 }
 
-/// What a call writes into a buffer, which is made larger where the call asks for it.
+/// The bytes that a call writes into a buffer, which is made larger where the call asks for it.
 fn written(call: impl Fn(&mut [u8], &mut usize) -> u32) -> Result<Run, RunError> {
     let mut bytes = Vec::new();
     let mut size = ROOM;

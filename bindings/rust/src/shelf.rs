@@ -68,7 +68,7 @@ pub enum PutError<'a> {
     OutOfMemory,
 }
 
-// What is put on a shelf lives exactly as long as what is read there.
+// An index on a shelf lives exactly as long as what is read there.
 type Lasting<'a> = PhantomData<fn(&'a [u8]) -> &'a [u8]>;
 
 #[repr(transparent)]

@@ -76,7 +76,7 @@ impl From<EachError> for io::Error {
     }
 }
 
-/// The elements of an array, or the values of an object's members, in a text that comes slice by slice: each compact, on a line of
+/// The elements of an array, or the values of an object's members, in a text that comes slice by slice. Each is compact, on a line of
 /// its own, as soon as it is due. No byte of the text is kept but those of a value or a name that is not whole yet.
 ///
 /// A pointer (RFC 6901) leads to the array or object, by the first member of each of its names. Compact is a value without the white
@@ -97,7 +97,7 @@ impl From<EachError> for io::Error {
 /// ```
 pub struct Each {
     raw: raw::Values,
-    // What the library reads until the stream ends. It is not touched before that.
+    // The bytes that the library reads until the stream ends. They are not touched before that.
     _pointer: Box<[u8]>,
 }
 
@@ -295,10 +295,10 @@ impl<R: io::Read> Iterator for Values<R> {
     }
 }
 
-/// The elements of the array that a pointer (RFC 6901) leads to in what is read, or the values of the object's members: each
-/// compact, before more is read than is needed. A slice of bytes is an input too.
+/// The elements of the array that a pointer (RFC 6901) leads to in what is read, or the values of the object's members. Each is
+/// compact, and comes before more is read than is needed. A slice of bytes is an input too.
 ///
-/// Values come while the text is read, so a fault comes after them: the last item is an [`EachError`] where the input is not valid JSON, a
+/// Values come while the text is read, so a fault comes after them. The last item is an [`EachError`] where the input is not valid JSON, a
 /// read failed, or the pointer leads to no array or object. [`Each`] says which values are given then. After the first error there
 /// is nothing.
 ///

@@ -3,24 +3,28 @@ ghost use Rattle.std.specs.Prelude.{IfOk};
 ghost use Rattle.jx_command.specs.Orders.{HasPieces};
 
 use crate::fault::Fault;
-use jx_command::{ArgFault, Input, Inputs, Order, command_of};
+use jx_command::{ArgFault, ByLine, Order, ValuesOrder, command_of};
+use jx_task::Task;
 use std::alloc::AllocError;
 use std::env::{Env, FillError};
+use std::fmt::Write;
 use std::{env, io};
 
 /// The bytes of the longest argument that Linux passes.
 const LONGEST: usize = 131_072;
 
-/// In place of bytes that are not UTF-8. No argument has one, and no file has such a name.
-pub const NOT_TEXT: char = '\0';
+/// In front of the two hexadecimal digits of a byte that is not UTF-8. No argument has one, and no file has such a name.
+const NOT_TEXT: char = '\0';
 
-/// The text of an argument, with `NOT_TEXT` in place of what is not UTF-8.
+/// The text of an argument, with `NOT_TEXT` and its digits in place of each byte that is not UTF-8.
 fn marked(rt: &HostRuntime, bytes: &[u8]) -> Result<String, AllocError> {
     let mut text = String::new(rt.alloc());
     for chunk in bytes.utf8_chunks() {
         text.push_str(chunk.valid())?;
-        if !chunk.invalid().is_empty() {
+        for byte in chunk.invalid() {
+            let byte = *byte;
             text.push(NOT_TEXT)?;
+            write!(text, "{byte:02X}")?;
         }
     }
     Ok(text)
@@ -52,16 +56,42 @@ pub fn arguments(rt: &HostRuntime) -> Result<Vec<String>, Fault> {
     }
 }
 
-/// How many of the files that are read have a name that is not UTF-8.
-fn marked_files(inputs: &Inputs<'_>) -> usize {
-    match inputs {
-        Inputs::One(Input::File(name)) => usize::from(name.contains(NOT_TEXT)),
-        Inputs::One(Input::Standard) => 0,
-        Inputs::Several(names) => names.iter().filter(|name| name.contains(NOT_TEXT)).count(),
+/// Whether a word has bytes that are not UTF-8.
+pub fn is_marked(word: &str) -> bool {
+    word.contains(NOT_TEXT)
+}
+
+/// The word for no value that the arguments have, if they have one.
+fn none_of<'a>(values: &ValuesOrder<'a>) -> &'a str {
+    match values.by_line {
+        Some(
+            ByLine {
+                table: Some(table),
+                ..
+            },
+        ) => table.none,
+        _ => "",
     }
 }
 
-/// What the arguments ask for. One that is not UTF-8 and no FILE is refused.
+/// Whether a pointer or the word for no value that the arguments have is not UTF-8.
+fn has_marked_word(order: &Order<'_>) -> bool {
+    match order {
+        Order::Report(request) => match &request.command.task {
+            Task::At(words) => words.iter().any(|word| is_marked(word.as_str())),
+            _ => false,
+        },
+        Order::Values(values) => {
+            let pointers = &values.task.pointers;
+            is_marked(none_of(values)) || pointers.iter().any(|word| is_marked(word.as_str()))
+        }
+        Order::Each(each) => is_marked(each.pointer),
+        Order::Split(split) => is_marked(split.pointer),
+        Order::Parts(_) | Order::Lines(_) | Order::Live(_) | Order::Save(_) => false,
+    }
+}
+
+/// The order that the arguments give. An argument that is not UTF-8 and no FILE is refused.
 pub fn order_by<'a>(
     rt: &HostRuntime,
     words: &'a [&'a str],
@@ -69,20 +99,13 @@ pub fn order_by<'a>(
 ) -> Result<Order<'a>, Fault>
     ensures { IfOk result HasPieces }
 {
-    let marked = words.iter().filter(|word| word.contains(NOT_TEXT)).count();
+    let is_text = !words.iter().any(|word| is_marked(*word));
     let order = match command_of(rt.alloc(), words, processors) {
-        Err(ArgFault::Clap(_)) if marked > 0 => return Err(Fault::NotText),
+        Err(ArgFault::Clap(_) | ArgFault::Workers(_)) if !is_text => return Err(Fault::NotText),
         found => found.map_err(Fault::of_arguments)?,
     };
-    let files = match &order {
-        Order::Report(request) => marked_files(&request.inputs),
-        Order::Lines(lines) => marked_files(&lines.inputs),
-        Order::Live(live) => marked_files(&live.inputs),
-        _ => 0,
-    };
-    if files == marked {
-        Ok(order)
-    } else {
-        Err(Fault::NotText)
+    if has_marked_word(&order) {
+        return Err(Fault::NotText);
     }
+    Ok(order)
 }

@@ -3,15 +3,16 @@ ghost use Rattle.std.specs.Prelude.{◌≤◌};
 
 use crate::fault::Fault;
 use crate::first_pass::{exit_of, is_long_file};
-use crate::input::{fault_of_report, name_of, open};
+use crate::input::{fault_of_report, name_of, open, open_explained};
 use crate::output::{Output, write_out};
 use jx_command::{Color, Input, Inputs, ShowProgress, TellAccepted, input_of};
 use jx_crew::{Crew, OpenGate};
 use jx_ends::{End, Exit};
-use jx_explain::{Form, Marking, explained, report_explained};
-use jx_files::{Status, shown_name};
-use jx_run::{Settings, Verdict};
+use jx_explain::{Explainer, Form, Marking, exit_of_input, explained, report_explained};
+use jx_files::Status;
+use jx_run::{NameRule, Settings, Verdict};
 use jx_task::Command;
+use jx_words::shown_name;
 use std::alloc::AllocError;
 use std::env;
 use std::env::VarError;
@@ -129,7 +130,40 @@ fn explain_held<R: Threads + Wait + Sync>(
     }
 }
 
-/// Reports the verdict on an input in a form. A long file is kept in memory only where reading it once before finds it refused.
+/// Reports the verdict on an input in a form. No more of it is kept than the bytes around a fault, and the open containers with their
+/// names.
+fn explain_read<R: Threads + Wait + Sync>(
+    rt: &HostRuntime,
+    threads: &R,
+    input: Input<'_>,
+    name: &[u8],
+    command: &Command,
+    form: Form,
+) -> Result<Status, Fault>
+    requires { 1 ≤ command.now.piece }
+{
+    let crew = Crew {
+        rt: threads,
+        alloc: rt.alloc(),
+        workers: command.workers,
+        gate: &OpenGate,
+    };
+    let explainer = Explainer::new(rt.alloc(), &command.settings);
+    let mut reader = open_explained(rt, input, explainer)?;
+    let mut writer = End::new(Output::of(rt));
+    let exit = match exit_of_input(&crew, &mut reader, &mut writer, command) {
+        Ok(exit) => exit,
+        Err(fault) => return Err(fault_of_report(rt, input, &reader, &writer, fault)),
+    };
+    if let Some(explainer) = reader.inner.explainer.take() {
+        let told = explainer.explained(name, form)?;
+        write_out(rt, told.as_bytes())?;
+    }
+    Ok(Status::of_exit(exit))
+}
+
+/// Reports the verdict on an input in a form. A long file is read before for its verdict alone, by several workers. All of a text whose
+/// names have to be unique is kept: an earlier name may be anywhere.
 fn explain_one<R: Threads + Wait + Sync>(
     rt: &HostRuntime,
     threads: &R,
@@ -146,7 +180,10 @@ fn explain_one<R: Threads + Wait + Sync>(
             Exit::Bad => (),
         }
     }
-    explain_held(rt, threads, input, &name, command, form)
+    match command.settings.names {
+        NameRule::Any => explain_read(rt, threads, input, &name, command, form),
+        NameRule::Unique => explain_held(rt, threads, input, &name, command, form),
+    }
 }
 
 /// Reports the verdict on each input that arguments name, in their order. One that cannot be read is reported, and the others go on.

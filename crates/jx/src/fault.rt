@@ -2,7 +2,6 @@ use clap::error::ErrorKind;
 use jx_command::ArgFault;
 use jx_ends::ReportFault;
 use jx_index::PointerFault;
-use jx_parts::PartsFault;
 use std::alloc::AllocError;
 use thiserror::Error;
 
@@ -21,6 +20,9 @@ pub enum Fault {
     /// No chunk of an index has so many bytes.
     #[error("error: invalid value for '--chunk <N>': N is no power of two\n")]
     Chunk,
+    /// The word for no value would end a cell.
+    #[error("error: invalid value for '--null <WORD>': WORD has a tab, a comma, a quotation mark or a line end\n")]
+    Null,
     /// An argument that is no FILE is not in UTF-8, as clap puts it.
     #[error("error: invalid UTF-8 was detected in one or more arguments\n")]
     NotText,
@@ -28,8 +30,8 @@ pub enum Fault {
     #[error("jx: {0}: {1}\n")]
     Misspelt(String, PointerFault),
     /// An argument for a pointer is not one.
-    #[error("jx: {0}: the first word is a pointer, and FILE the second\n")]
-    Pointer(PointerFault),
+    #[error("jx: {0}: {1}: the first word is a pointer, and FILE the second\n")]
+    Pointer(String, PointerFault),
     #[error("jx: out of memory\n")]
     Memory(#[from(alloc)] AllocError),
     #[error("{0}\n")]
@@ -40,15 +42,13 @@ pub enum Fault {
     /// A report has nowhere to go. That was reported already, or cannot be.
     #[error("")]
     ReportLost,
-    #[error("{0}\n")]
-    Parts(PartsFault),
     /// A run is to be written to a terminal.
     #[error("jx: a run is not written to a terminal: write it to a file or a pipe\n")]
     Terminal,
     /// An index is to be written to a terminal.
     #[error("jx: an index is not written to a terminal: write it to a file or a pipe\n")]
     TerminalForIndex,
-    /// What is wrong with an input was reported already.
+    /// A fault of an input that was reported already.
     #[error("")]
     Told,
     /// The reader of the output has gone, and there is nothing to report.
@@ -65,13 +65,14 @@ impl Fault {
         }
     }
 
-    /// Where the words are no command.
+    /// The fault of words that are no command.
     pub fn of_arguments(fault: ArgFault) -> Fault {
         match fault {
             ArgFault::Clap(error) => Fault::Words(error),
             ArgFault::StandardTwice => Fault::StandardTwice,
             ArgFault::Workers(word) => Fault::Workers(word),
             ArgFault::Chunk => Fault::Chunk,
+            ArgFault::Null => Fault::Null,
             ArgFault::Memory => Fault::Memory(AllocError),
         }
     }

@@ -1,32 +1,35 @@
 // Inputs, and the reports on those that cannot be read.
 ghost use Rattle.std.specs.Prelude.{◌≡◌, ⊤, false, IfErr, IfOk};
 
-use crate::arguments::NOT_TEXT;
+use crate::arguments::is_marked;
 use crate::fault::Fault;
 use crate::output::{Writer, fault_of_write};
 use crate::progress::{Watch, watch_of};
 use crate::shared_file::{SharedFile, share};
 use jx_command::{Input, ShowProgress, input_of};
 use jx_ends::{End, ReportFault};
+use jx_explain::Explainer;
 use jx_files::{FileFault, Opener, Reason, tell};
 use std::alloc::AllocError;
 use std::fs::File;
 use std::io;
 use std::io::{Read, Stdin};
 
-/// What an input is read from.
+/// The origin of the bytes of an input.
 #[derive(Drop)]
 enum Origin {
     Standard(Stdin),
     File(File),
 }
 
-/// An input that is open, why the last read of it failed, if it failed, and the watch that shows how far it was read.
+/// An input that is open, why the last read of it failed, if it failed, the watch that shows how far it was read, and what explains it.
 #[derive(Drop)]
 pub struct Opened<'r> {
     origin: Origin,
     pub why: Reason,
     watch: Option<Watch<'r>>,
+    /// It is fed all that is read.
+    pub explainer: Option<Explainer>,
 }
 
 /// Gives a watch, if there is one, the result of a read. Where nothing was read, nothing is left.
@@ -35,6 +38,15 @@ fn note(watch: &mut Option<Watch<'_>>, read: &io::Result<usize>) {
         match read {
             Ok(0) | Err(_) => watch.end(),
             Ok(count) => watch.count(*count),
+        }
+    }
+}
+
+/// Feeds what explains an input, if anything does, the bytes that a read gave.
+fn explain(explainer: &mut Option<Explainer>, read: &io::Result<usize>, bytes: &[u8]) {
+    if let Some(explainer) = explainer {
+        if let Ok(count) = read {
+            explainer.feed(bytes.get(..*count).unwrap_or(bytes));
         }
     }
 }
@@ -49,11 +61,12 @@ impl<'r> Read for Opened<'r> {
             self.why = Reason::of(error);
         }
         note(&mut self.watch, &result);
+        explain(&mut self.explainer, &result, buf);
         result
     }
 }
 
-/// What a report reads from.
+/// The reader of a report.
 pub type Reader<'r> = End<Opened<'r>>;
 
 /// Why a file did not open.
@@ -66,7 +79,7 @@ fn unopened_by(error: &io::Error) -> FileFault {
 
 /// Opens a file. A directory opens too, and is reported with the system's message. A name that is not UTF-8 is that of no file.
 pub fn file_of(rt: &HostRuntime, path: &str) -> Result<File, FileFault> {
-    if path.contains(NOT_TEXT) {
+    if is_marked(path) {
         return Err(FileFault::Open(Reason::Invalid));
     }
     match File::open(rt, path) {
@@ -105,6 +118,7 @@ fn reader_of<'r>(
         origin,
         why: Reason::Other,
         watch,
+        explainer: None,
     }))
 }
 
@@ -120,26 +134,37 @@ fn is_long(origin: &Origin) -> bool {
     }
 }
 
-/// The file that a reader reads from, where it is a regular one, of a MiB at least, and no progress is shown; else
-/// the reader.
+/// The file that a reader reads from, where it is a regular one, of a MiB at least, and no progress is shown nor the text explained;
+/// else the reader.
 pub fn file_in<'r>(reader: Reader<'r>) -> Result<File, Reader<'r>>
     ensures { IfErr result (λ back. back ≡ reader.entry) }
 {
-    if reader.inner.watch.is_some() || !is_long(&reader.inner.origin) {
+    let is_followed = reader.inner.watch.is_some() || reader.inner.explainer.is_some();
+    if is_followed || !is_long(&reader.inner.origin) {
         return Err(reader);
     }
     let End { inner, failed } = reader;
-    let Opened { origin, why, watch } = inner;
+    let Opened {
+        origin,
+        why,
+        watch,
+        explainer,
+    } = inner;
     match origin {
         Origin::File(file) => Ok(file),
         origin => Err(End {
-            inner: Opened { origin, why, watch },
+            inner: Opened {
+                origin,
+                why,
+                watch,
+                explainer,
+            },
             failed,
         }),
     }
 }
 
-/// What an input is called.
+/// The name of an input.
 pub fn name_of<'a>(input: Input<'a>) -> &'a str {
     match input {
         Input::Standard => "-",
@@ -158,6 +183,21 @@ pub fn open<'r>(rt: &'r HostRuntime, input: Input<'_>) -> Result<Reader<'r>, Fau
     ensures { IfOk result (λ reader. reader.failed ≡ false) }
 {
     open_watched(rt, input, ShowProgress::Never)
+}
+
+/// Opens an input that is explained while it is read, or reports why it does not open.
+pub fn open_explained<'r>(
+    rt: &'r HostRuntime,
+    input: Input<'_>,
+    explainer: Explainer,
+) -> Result<Reader<'r>, Fault>
+    ensures { IfOk result (λ reader. reader.failed ≡ false) }
+{
+    let opened = open(rt, input)?.inner;
+    Ok(End::new(Opened {
+        explainer: Some(explainer),
+        ..opened
+    }))
 }
 
 /// Opens an input, or reports why it does not open. Its progress may be shown.

@@ -11,14 +11,15 @@ use jx_command::{Input, Inputs, LinesOrder, LiveOrder, PassOrder, Told, input_of
 use jx_crew::{Crew, OpenGate, Workers};
 use jx_ends::{End, ReportFault};
 use jx_explain::object_front;
-use jx_files::{FileFault, Status, shown_name};
+use jx_files::{FileFault, Status};
 use jx_ndjson_report::{
-    BlankRule, ElementsTask, LineForm, LinesTask, report_lines, report_sequence,
+    BlankRule, ElementsTask, LineForm, LinesTask, report_first_lines, report_lines, report_sequence,
 };
+use jx_words::shown_name;
 use std::sync::Wait;
 use std::thread::Threads;
 
-/// What is reported of each input.
+/// The order for a report on each input.
 #[derive(Drop)]
 enum Asked<'a> {
     /// The lines that are not valid JSON.
@@ -31,6 +32,8 @@ enum Asked<'a> {
 #[derive(Drop)]
 enum Task<'a> {
     Lines(LinesTask),
+    /// The first lines that are refused, so many at most.
+    First(LinesTask, usize),
     Passed(LinesTask, PassOrder<'a>),
     Elements(ElementsTask),
 }
@@ -43,7 +46,7 @@ fn way_of(asked: &Asked<'_>) -> Told {
     }
 }
 
-/// What a line is written as.
+/// The form in which a line is written.
 fn form_of(told: Told) -> LineForm {
     match told {
         Told::Marks => LineForm::Mark,
@@ -94,9 +97,10 @@ fn elements_task(order: &LiveOrder<'_>, front: Vec<u8>) -> ElementsTask {
 
 fn task_of<'a>(asked: &Asked<'a>, front: Vec<u8>) -> Task<'a> {
     match asked {
-        Asked::Lines(order) => match order.pass {
-            None => Task::Lines(lines_task(order, front)),
-            Some(pass) => Task::Passed(lines_task(order, front), pass),
+        Asked::Lines(order) => match (order.pass, order.most) {
+            (Some(pass), _) => Task::Passed(lines_task(order, front), pass),
+            (None, Some(most)) => Task::First(lines_task(order, front), most),
+            (None, None) => Task::Lines(lines_task(order, front)),
         },
         Asked::Elements(order) => Task::Elements(elements_task(order, front)),
     }
@@ -119,6 +123,9 @@ fn tell_from<R: Threads + Wait + Sync>(
     let mut reader = reader;
     let told = match task {
         Task::Lines(task) => report_lines(crew, &mut reader, writer, task, piece),
+        Task::First(task, most) => {
+            report_first_lines(crew.alloc, &mut reader, writer, task, (*most).max(1))
+        }
         Task::Passed(task, pass) => return pass_input(rt, input, &mut reader, writer, task, *pass),
         Task::Elements(task) => report_sequence(crew, &mut reader, writer, task),
     };
@@ -270,7 +277,7 @@ fn tell_one<R: Threads + Wait + Sync>(
     list(rt, way, input, status)
 }
 
-/// What is read.
+/// The inputs that are read.
 fn inputs_of<'o, 'a>(asked: &'o Asked<'a>) -> &'o Inputs<'a> {
     match asked {
         Asked::Lines(order) => &order.inputs,

@@ -1,31 +1,84 @@
 // Values of each line of an input.
-ghost use Rattle.std.specs.Prelude.{All};
+ghost use Rattle.std.specs.Prelude.{◌≡◌, All, OnOk, false, true};
+ghost use Rattle.std.specs.Io.KnownBytes.{Appends};
 ghost use Rattle.jx_index.specs.Pointers.{IsPointer};
-ghost use Rattle.jx_line_values.specs.LineValues.{pointers_of};
+ghost use Rattle.jx_line_values.specs.LineValues.{header, pointers_of};
 
 use crate::fault::Fault;
 use crate::input::{fault_of_report, open};
+use crate::messages::{messages_on, shown_word};
 use crate::output::Output;
-use jx_command::{ByLine, Input};
-use jx_ends::End;
+use jx_command::{ByLine, Input, TableForm, TableOrder};
+use jx_ends::{End, ReportFault, Sink};
 use jx_files::Status;
-use jx_line_values::{LineValuesTask, first_misspelt, report_line_values};
+use jx_line_values::{LineValuesTask, RowForm, first_misspelt, report_line_values, write_header};
 use jx_task::ValuesTask;
+use std::alloc::Global;
 
-/// Writes the values that pointers lead to in each line of an input.
+/// Writes the pointers as the first row, if there is one.
+fn write_first_row<W: Sink>(
+    alloc: Global,
+    writer: &mut W,
+    task: &LineValuesTask,
+    has_header: bool,
+) -> Result<(), ReportFault>
+    requires { W.has_failed writer.old ≡ false }
+    ensures written { has_header ≡ true → OnOk result (Appends (W.contents writer.old) (W.contents writer.new) (header task.now)) }
+    ensures none { has_header ≡ false → writer.new ≡ writer.old }
+    ensures going { OnOk result (W.has_failed writer.new ≡ false) }
+{
+    if has_header {
+        write_header(alloc, writer, task)
+    } else {
+        Ok(())
+    }
+}
+
+/// Writes the values that pointers lead to in each line of an input, after the pointers themselves if they are a header.
 fn write_line_values(
     rt: &HostRuntime,
     input: Input<'_>,
     task: &LineValuesTask,
+    has_header: bool,
 ) -> Result<Status, Fault>
     requires { All IsPointer (pointers_of task.now) }
 {
     let mut reader = open(rt, input)?;
     let mut writer = End::new(Output::of(rt));
-    let mut errors = End::new(rt.stderr());
+    let mut errors = messages_on(rt, input)?;
+    if let Err(fault) = write_first_row(rt.alloc(), &mut writer, task, has_header) {
+        return Err(fault_of_report(rt, input, &reader, &writer, fault));
+    }
     match report_line_values(rt.alloc(), &mut reader, &mut writer, &mut errors, task) {
         Ok(exit) => Ok(Status::of_exit(exit)),
         Err(fault) => Err(fault_of_report(rt, input, &reader, &writer, fault)),
+    }
+}
+
+/// How the values of a line stand in a row.
+fn form_of(table: Option<TableOrder<'_>>) -> RowForm {
+    match table {
+        None => RowForm::Json,
+        Some(table) => match table.form {
+            TableForm::Tsv => RowForm::Tsv,
+            TableForm::Csv => RowForm::Csv,
+        },
+    }
+}
+
+/// The text that is written where there is no value.
+fn none_of<'a>(table: Option<TableOrder<'a>>) -> &'a str {
+    match table {
+        None => "",
+        Some(table) => table.none,
+    }
+}
+
+/// Whether the first row is of pointers.
+fn has_header(table: Option<TableOrder<'_>>) -> bool {
+    match table {
+        None => false,
+        Some(table) => table.has_header,
     }
 }
 
@@ -34,18 +87,17 @@ pub fn write_line_values_of(
     rt: &HostRuntime,
     input: Input<'_>,
     task: ValuesTask,
-    by_line: ByLine,
+    by_line: ByLine<'_>,
 ) -> Result<Status, Fault> {
     let task = LineValuesTask {
         pointers: task.pointers,
         settings: task.settings,
         skips_blank: by_line.skips_blanks,
+        form: form_of(by_line.table),
+        none: String::from_str(rt.alloc(), none_of(by_line.table))?,
     };
     match first_misspelt(&task.pointers) {
-        None => write_line_values(rt, input, &task),
-        Some(misspelt) => {
-            let word = String::from_str(rt.alloc(), misspelt.word)?;
-            Err(Fault::Misspelt(word, misspelt.fault))
-        }
+        None => write_line_values(rt, input, &task, has_header(by_line.table)),
+        Some(misspelt) => Err(Fault::Misspelt(shown_word(rt, misspelt.word)?, misspelt.fault)),
     }
 }

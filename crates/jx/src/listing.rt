@@ -7,8 +7,9 @@ use crate::input::name_of;
 use crate::output::write_out;
 use jx_command::{Input, Inputs, ShowProgress, input_of};
 use jx_ends::Exit;
-use jx_files::{Status, shown_name};
+use jx_files::Status;
 use jx_task::Command;
+use jx_words::shown_name;
 use std::sync::Wait;
 use std::thread::Threads;
 

@@ -16,6 +16,7 @@ mod line_values;
 mod lines;
 mod listing;
 mod look_faults;
+mod messages;
 mod misplaced;
 mod output;
 mod parts;

@@ -1,6 +1,7 @@
 // Arguments in the place of a pointer that are not one, or may be a file.
 use crate::fault::Fault;
 use crate::input::told_of;
+use crate::messages::shown_word;
 use jx_command::{Input, Inputs};
 use jx_files::FileFault;
 use jx_index::{Pointer, PointerFault};
@@ -17,15 +18,14 @@ pub fn refuse_misplaced(rt: &HostRuntime, words: &[String]) -> Result<(), Fault>
                 return Err(told_of(rt, file, FileFault::NoPointer));
             }
             Err(fault) => {
-                let word = String::from_str(rt.alloc(), word.as_str())?;
-                return Err(Fault::Misspelt(word, fault));
+                return Err(Fault::Misspelt(shown_word(rt, word.as_str())?, fault));
             }
         }
     }
     Ok(())
 }
 
-/// The same, where the task is to look pointers up.
+/// Refuses the same, where the task is to look pointers up.
 pub fn refuse_misplaced_in(
     rt: &HostRuntime,
     inputs: &Inputs<'_>,

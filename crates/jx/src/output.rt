@@ -1,4 +1,4 @@
-// What is written to.
+// Writers: the ends of output.
 use crate::fault::Fault;
 use jx_ends::{End, write_whole};
 use std::fs::File;
@@ -23,7 +23,7 @@ pub struct Output {
     pub why: &'static str,
 }
 
-/// Why a write failed, as the C library puts it, with a colon and a space in front; nothing where that is not told.
+/// The reason for which a write failed, as the C library puts it, with a colon and a space in front; nothing where that is not told.
 pub fn reason_of(error: &io::Error) -> &'static str {
     match error.raw_os_error() {
         Some(5) => ": Input/output error",
@@ -45,12 +45,12 @@ impl Output {
         }
     }
 
-    /// Standard output, to which nothing was written.
+    /// The writer of standard output, to which nothing was written.
     pub fn of(rt: &HostRuntime) -> Output {
         Output::to(Outlet::Standard(rt.stdout()))
     }
 
-    /// Standard error.
+    /// The writer of standard error.
     pub fn of_errors(rt: &HostRuntime) -> Output {
         Output::to(Outlet::Errors(rt.stderr()))
     }

@@ -3,6 +3,7 @@ ghost use Rattle.std.specs.Prelude.{◌≡◌, false};
 
 use crate::fault::Fault;
 use crate::input::{Reader, fault_of_report, open};
+use crate::messages::tell_words;
 use crate::output::{Output, Writer};
 use jx_command::{PartsOrder, PartsStep};
 use jx_ends::{End, Exit};
@@ -57,6 +58,10 @@ pub fn work_on_parts(rt: &HostRuntime, order: &PartsOrder<'_>) -> Result<Status,
         Err(PartsFault::Report(fault)) => {
             Err(fault_of_report(rt, order.input, &reader, &writer, fault))
         }
-        Err(fault) => Err(Fault::Parts(fault)),
+        Err(fault) => {
+            let alloc = rt.alloc();
+            let words = format!(in alloc; "{fault}\n")?;
+            Err(tell_words(rt, order.input, words.as_str())?)
+        }
     }
 }

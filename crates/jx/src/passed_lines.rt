@@ -1,28 +1,18 @@
 // Lines that pass through, and where the report on the others goes.
 ghost use Rattle.std.specs.Prelude.{◌≡◌, false, IfOk};
 
+use crate::arguments::is_marked;
 use crate::fault::Fault;
-use crate::input::{Reader, fault_of_report, name_of, told_of};
+use crate::input::{Reader, fault_of_report, told_of};
+use crate::messages::tell_words;
 use crate::output::{Output, Writer, fault_of_write};
 use jx_command::{Input, PassOrder};
 use jx_ends::{End, ReportFault, write_whole};
-use jx_files::{FileFault, Reason, Status, shown_name};
+use jx_files::{FileFault, Reason, Status};
 use jx_ndjson_report::{LinesTask, pass_lines};
-use std::alloc::AllocError;
 use std::fs;
 use std::fs::File;
 use std::os::unix::fs::MetadataExt;
-
-/// Reports a fault of a file on standard error, after its name as it is shown.
-fn tell(rt: &HostRuntime, path: &str, words: &str, why: &str) -> Result<(), AllocError> {
-    let mut line = Vec::from_slice(rt.alloc(), b"jx: ")?;
-    line.extend_from_slice(&shown_name(rt.alloc(), path)?)?;
-    line.extend_from_slice(words.as_bytes())?;
-    line.extend_from_slice(why.as_bytes())?;
-    line.extend_from_slice(b"\n")?;
-    let _ = write_whole(&mut End::new(rt.stderr()), &line);
-    Ok(())
-}
 
 /// Whether two paths lead to one regular file.
 fn is_one_file(rt: &HostRuntime, one: &str, other: &str) -> bool {
@@ -48,13 +38,17 @@ fn is_output(rt: &HostRuntime, input: Input<'_>, pass: PassOrder<'_>) -> bool {
     is_report || is_one_file(rt, path, "/dev/stdout")
 }
 
-/// What the report is written to: the end of FILE, which may be new, or standard error.
+/// The writer of the report: the end of FILE, which may be new, or standard error.
 fn report_of(rt: &HostRuntime, pass: PassOrder<'_>) -> Result<Writer, Fault>
     ensures { IfOk result (λ report. report.failed ≡ false) }
 {
     let Some(path) = pass.report else {
         return Ok(End::new(Output::of_errors(rt)));
     };
+    if is_marked(path) {
+        told_of(rt, Input::File(path), FileFault::Open(Reason::Invalid));
+        return Err(Fault::ReportLost);
+    }
     match File::options().create(true).append(true).open(rt, path) {
         Ok(file) => Ok(End::new(Output::of_file(file))),
         Err(error) => {
@@ -65,13 +59,12 @@ fn report_of(rt: &HostRuntime, pass: PassOrder<'_>) -> Result<Writer, Fault>
 }
 
 /// The fault of what the report is written to. That of a file is reported; on standard error nothing more is.
-fn fault_of_pass(
-    rt: &HostRuntime,
-    pass: PassOrder<'_>,
-    report: &Writer,
-) -> Result<Fault, AllocError> {
+fn fault_of_pass(rt: &HostRuntime, pass: PassOrder<'_>, report: &Writer) -> Result<Fault, Fault> {
     if let Some(path) = pass.report {
-        tell(rt, path, ": write failed", report.inner.why)?;
+        let why = report.inner.why;
+        let alloc = rt.alloc();
+        let words = format!(in alloc; "write failed{why}\n")?;
+        tell_words(rt, Input::File(path), words.as_str())?;
     }
     Ok(Fault::ReportLost)
 }
@@ -89,8 +82,7 @@ pub fn pass_input(
     requires writer { writer.old.failed ≡ false }
 {
     if is_output(rt, input, pass) {
-        tell(rt, name_of(input), ": the input is an output, too", "")?;
-        return Err(Fault::Told);
+        return Err(tell_words(rt, input, "the input is an output, too\n")?);
     }
     let mut report = report_of(rt, pass)?;
     match pass_lines(rt.alloc(), reader, writer, &mut report, task) {

@@ -9,7 +9,7 @@ const PAUSE: u64 = 100;
 /// A megabyte.
 const MEGA: u64 = 1_000_000;
 
-/// What was read of an input, and since when.
+/// The number of bytes that were read of an input, and since when.
 #[derive(Drop)]
 pub struct Watch<'r> {
     rt: &'r HostRuntime,

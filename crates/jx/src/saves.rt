@@ -1,6 +1,7 @@
 // The index of a text, which is saved.
 use crate::fault::Fault;
 use crate::input::{fault_of_report, open_watched};
+use crate::messages::messages_on;
 use crate::output::Output;
 use jx_cmd_index::report_index;
 use jx_command::SaveOrder;
@@ -15,7 +16,7 @@ pub fn save_index(rt: &HostRuntime, order: &SaveOrder<'_>) -> Result<Status, Fau
     }
     let mut reader = open_watched(rt, order.input, order.progress)?;
     let mut writer = End::new(Output::of(rt));
-    let mut errors = End::new(rt.stderr());
+    let mut errors = messages_on(rt, order.input)?;
     match report_index(
         rt.alloc(),
         &mut reader,

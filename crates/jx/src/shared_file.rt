@@ -42,7 +42,7 @@ impl SharedAt for SharedFile {
     }
 }
 
-/// What a reader reads from, where it is a regular file that nobody watches; else the reader.
+/// The file that a reader reads from, where it is a regular file that nobody watches; else the reader.
 pub fn share<'r>(reader: Reader<'r>) -> Result<SharedFile, Reader<'r>>
     ensures { IfErr result (λ back. back ≡ reader.entry) }
 {

@@ -2,6 +2,7 @@
 use crate::fault::Fault;
 use crate::input::open;
 use crate::look_faults::fault_of_look;
+use crate::messages::messages_on;
 use crate::output::Output;
 use crate::text_file::TextFile;
 use jx_cmd_index::report_parts;
@@ -15,7 +16,7 @@ pub fn write_parts(rt: &HostRuntime, order: &SplitOrder<'_>) -> Result<Status, F
     let mut saved = open(rt, Input::File(index))?;
     let mut text = TextFile::open(rt, file)?;
     let mut writer = End::new(Output::of(rt));
-    let mut errors = End::new(rt.stderr());
+    let mut errors = messages_on(rt, Input::File(file))?;
     match report_parts(
         rt.alloc(),
         &mut saved,

@@ -5,6 +5,7 @@ use crate::fault::Fault;
 use crate::input::{fault_of_report, open};
 use crate::line_values::write_line_values_of;
 use crate::lines::text_of;
+use crate::messages::messages_on;
 use crate::misplaced::refuse_misplaced;
 use crate::output::Output;
 use crate::values_by_index::write_values_by_index;
@@ -29,7 +30,7 @@ fn write_values<R: Threads + Wait + Sync>(
 {
     let mut reader = open(rt, input)?;
     let mut writer = End::new(Output::of(rt));
-    let mut errors = End::new(rt.stderr());
+    let mut errors = messages_on(rt, input)?;
     match report_values(
         threads,
         rt.alloc(),

@@ -2,6 +2,7 @@
 use crate::fault::Fault;
 use crate::input::open;
 use crate::look_faults::fault_of_look;
+use crate::messages::messages_on;
 use crate::output::Output;
 use crate::text_file::TextFile;
 use jx_cmd_index::report_values_by_index;
@@ -21,7 +22,7 @@ pub fn write_values_by_index(
     let mut saved = open(rt, Input::File(index))?;
     let mut text = TextFile::open(rt, path)?;
     let mut writer = End::new(Output::of(rt));
-    let mut errors = End::new(rt.stderr());
+    let mut errors = messages_on(rt, Input::File(path))?;
     match report_values_by_index(
         rt.alloc(),
         &mut saved,

@@ -18,7 +18,7 @@ RefusesNameIn rule (answer.Refused refusal) name = name ≡ None
 RefusesNameIn rule answer.MayBeCut name = name ≡ None
 RefusesNameIn rule answer.Unmarked name = name ≡ None
 
--- what the rule makes of an answer on an element
+-- the answer that the rule makes of one on an element
 pub record IsByNames (rule : NameRule) (told after : ElementAnswer) : Type 0 where
   pub name : Option ℕ
   pub refused : RefusesNameIn rule told name

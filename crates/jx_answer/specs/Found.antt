@@ -13,7 +13,7 @@ use Rattle.jx_answer.specs.declared.find_answer.Answer.{Answer}
 use Rattle.jx_answer.specs.declared.find_answer.Answer.TheVariants.{Found, Fault}
 use Rattle.jx_answer.specs.declared.bytes.lookups.Answered.{Answered}
 
--- what `find` answers to the pointer on this index
+-- the answer of `find` to the pointer on this index
 abbrev pub Finds : IndexedValue → List ℕ → Result ℕ FindFault → Type 0
 Finds index pointer found = (limit : ℕ) (tree : Tree)
     → IsText index.text index.span.start index.span.end limit tree → found ≡ leads index.text tree (tokens pointer)

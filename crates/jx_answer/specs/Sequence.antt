@@ -24,7 +24,7 @@ pub record IsElementIndex (input : List ℕ) (p : Part) (limit : ℕ) (index : I
   pub span : index.span ≡ part_span p
   pub rows_are : index.rows ≡ rows tree
 
--- what is answered on an element
+-- the answer on an element
 abbrev pub IsElementAnswer : List ℕ → Part → ℕ → ElementAnswer → Type 0
 IsElementAnswer input p limit answer.Unmarked = p.at ≡ 0
 IsElementAnswer input p limit (answer.Refused refusal) = (0 < p.at) × Judged p.at p.bytes limit (Refused refusal)

@@ -10,7 +10,7 @@ use Rattle.jx_answer.specs.declared.element.ElementAnswer.{ElementAnswer}
 use Rattle.jx_answer.specs.ByNames.{IsByNames}
 use Rattle.jx_answer.specs.Sequence.{IsElementAnswer}
 
--- what is answered on an element within the depth, and what the rule on names makes of that
+-- the answer on an element within the depth, and the one that the rule on names makes of that
 pub record IsElementBy (settings : Settings) (input : List ℕ) (p : Part) (e : Element) : Type 0 where
   pub told : ElementAnswer
   pub span_is : e.span ≡ part_span p

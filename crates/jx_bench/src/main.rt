@@ -19,7 +19,7 @@ const ROUNDS: usize = 5;
 
 const USAGE: &str = "usage: jx_bench steps|maps|runs|outcomes|stack|structures|reading|rows FILE";
 
-/// What one round took, and how many token starts, runs or rows it found.
+/// The time that one round took, and how many token starts, runs or rows it found.
 #[derive(Clone, Copy)]
 struct Round {
     time: Duration,

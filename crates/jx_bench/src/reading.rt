@@ -1,4 +1,4 @@
-// What is measured, for one text.
+// The work that is measured, for one text.
 ghost use Rattle.std.specs.Prelude.{◌≡◌, IfOk, slice_range, length};
 ghost use Rattle.jx_run.specs.Started.{IsStarted};
 ghost use Rattle.jx_run.specs.Tree.{span};
@@ -96,7 +96,7 @@ pub fn reading_of(alloc: Global, text: &[u8]) -> Result<Started, AllocError>
     run.started()
 }
 
-/// How many rows the text has; none where it is refused.
+/// The number of rows that the text has; none where it is refused.
 pub fn rows_of(alloc: Global, text: &[u8], started: &Started) -> Result<u64, AllocError>
     requires span { started.now.span ≡ span 0 (length text.now) }
     requires reading { IsStarted (slice_range text.now 0 (length text.now)) started.now }

@@ -1,7 +1,7 @@
 ghost use Rattle.std.specs.Prelude.{◌≡◌, ◌↔◌, Some, codes};
 ghost use Rattle.jx_bench.specs.declared.task.Task.TheVariants.{Steps, Maps, Runs, Outcomes, Stack, Structures, Reading, Rows};
 
-/// What is measured.
+/// The work that is measured.
 #[derive(Clone, Copy, Debug)]
 pub enum Task {
     /// The lexical machine, byte by byte, from between tokens: its token starts are counted and none is kept.

@@ -30,7 +30,7 @@ one_if b = cond b 1 0
 
 -- ---- which bytes begin which tokens
 
-abbrev passes : (MarkKind → Bool) → Option MarkKind → Bool
+abbrev pub passes : (MarkKind → Bool) → Option MarkKind → Bool
 passes test None = false
 passes test (Some kind) = test kind
 
@@ -104,11 +104,11 @@ ones-bit zero lt = refl
 ones-bit (suc zero) lt = refl
 ones-bit (suc (suc b)) lt = absurd (omega arith)
 
-no_bits : (w : ℕ) → count_ones (w % 2 ^ 0) ≡ 0
+pub no_bits : (w : ℕ) → count_ones (w % 2 ^ 0) ≡ 0
 no_bits w = let none : w % 2 ^ 0 ≡ 0 = omega arith in let e : count_ones 0 ≡ 0 = ones-bit 0 (omega arith) in ap count_ones none ∙ e
 
 -- one bit more
-ones-more : (w n : ℕ) → count_ones (w % 2 ^ (n + 1)) ≡ count_ones (w % 2 ^ n) + one_if (is_set w n)
+pub ones-more : (w n : ℕ) → count_ones (w % 2 ^ (n + 1)) ≡ count_ones (w % 2 ^ n) + one_if (is_set w n)
 ones-more w n =
     let e : n + 1 ≡ 1 + n = omega arith in
     let low : w % 2 ^ n < 2 ^ n = omega (arith, pow_pos n) in
@@ -118,7 +118,7 @@ ones-more w n =
     cut ∙ two ∙ omega arith
 
 -- behind the last bit
-ones-cut : (w n d : ℕ) → ((k : ℕ) → n ≤ k → k < n + d → is_set w k ≡ false) → count_ones (w % 2 ^ (n + d)) ≡ count_ones (w % 2 ^ n)
+pub ones-cut : (w n d : ℕ) → ((k : ℕ) → n ≤ k → k < n + d → is_set w k ≡ false) → count_ones (w % 2 ^ (n + d)) ≡ count_ones (w % 2 ^ n)
 ones-cut w n zero none = let e : n + 0 ≡ n = omega arith in ap (λ (m : ℕ). count_ones (w % 2 ^ m)) e
 ones-cut w n (suc d) none =
     let e : n + suc d ≡ n + d + 1 = omega arith in
@@ -133,7 +133,7 @@ module _ (test : MarkKind → Bool) (byte : ℕ → Bool) (text : List ℕ) (at 
   byte_at : ℕ → ℕ
   byte_at k = get_or text (at + k) 0
 
-  at_byte : (k : ℕ) → k < 64 → passes test (mark_at starts k (get_or text (at + k) 0)) ≡ is_set w k
+  pub at_byte : (k : ℕ) → k < 64 → passes test (mark_at starts k (get_or text (at + k) 0)) ≡ is_set w k
   at_byte k lt = by_bit (cases_Bool (is_set starts k))
     where
       b : ℕ

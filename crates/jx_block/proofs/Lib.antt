@@ -1,5 +1,7 @@
 pub mod BitCounts
 pub mod Bytes
+pub mod LevelBits
+pub mod LevelMarks
 pub mod Listing
 pub mod NumberRuns
 pub mod Pieces

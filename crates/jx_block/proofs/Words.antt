@@ -4,7 +4,8 @@ use Rattle.std.specs.Prelude.{◌==◌, ◌&&◌, ◌||◌}
 use Rattle.std.specs.Int.{bit_at, trailing_zeros}
 use Rattle.std.specs.Simd.Lanes.{mask_l}
 use Rattle.std.proofs.lemmas.Bool.{cases_lt}
-use Rattle.std.proofs.lemmas.Nat.Bits.{bit_at-trailing_zeros, bit_at_lowest, bit_at-suc, bit_at-zero, ones_shr, bit_at_ones}
+use Rattle.std.proofs.lemmas.Nat.{pow_pos}
+use Rattle.std.proofs.lemmas.Nat.Bits.{bit_at-trailing_zeros, bit_at_above, bit_at_lowest, bit_at-suc, bit_at-zero, ones_shr, bit_at_ones}
 use Rattle.jx_lex.specs.inside.Bits.{bit}
 use Rattle.jx_lex.proofs.Bits.{bit-and, bit-mask, bit-xor, bit-up, no_difference_above}
 
@@ -14,6 +15,23 @@ unfolding bit
 bit-low n k le lt =
     let e : 64 - (64 - n) ≡ n = omega arith in
     ap (λ m. bit_at m k == 1) (ones_shr 64 (64 - n) (omega arith) ∙ ap (λ m. 2 ^ m - 1) e) ∙ ap (λ m. m == 1) (bit_at_ones n k lt)
+
+-- the lowest bits of a word, up to one of them
+pub low_at : (k j : ℕ) → k < 64 → j ≤ k → bit ((2 ^ 64 - 1) / 2 ^ (63 - k)) j ≡ true
+low_at k j lt le =
+    let e : 64 - (k + 1) ≡ 63 - k = omega arith in
+    ap (λ m. bit ((2 ^ 64 - 1) / 2 ^ m) j) (sym e) ∙ bit-low (k + 1) j (omega arith) (omega arith)
+
+pub high_at : (k j : ℕ) → k < 64 → k < j → bit ((2 ^ 64 - 1) / 2 ^ (63 - k)) j ≡ false
+unfolding bit
+high_at k j lt more =
+    let e : 64 - (63 - k) ≡ k + 1 = omega arith in
+    let w : (2 ^ 64 - 1) / 2 ^ (63 - k) ≡ 2 ^ (k + 1) - 1 = ones_shr 64 (63 - k) (omega arith) ∙ ap (λ m. 2 ^ m - 1) e in
+    ap (λ n. n == 1) (bit_at_above ((2 ^ 64 - 1) / 2 ^ (63 - k)) (k + 1) j (omega (arith, w, pow_pos (k + 1))) (omega arith))
+
+pub or_none : (a : Bool) → (a || false) ≡ a
+or_none true = refl
+or_none false = refl
 
 -- one bit
 pub bit-one : (k : ℕ) → k < 64 → bit (1 * 2 ^ k % 2 ^ 64) k ≡ true
@@ -103,6 +121,22 @@ cleared w some fits =
         let e : suc (w - 1) ≡ w = omega arith in
         and_same (bit w j) (bit (w - 1) j) (bit-xor w (w - 1) j (no_difference_above w (w - 1) (trailing_zeros w64 w) j e after (lowest_set w some fits).1))
     by_order j (inr past) (inr before) apart = absurd (apart (omega arith))
+
+-- without its lowest bit a word has none up to there
+pub none_left : (left k : ℕ) → Cleared left (bit_and left (left - 1)) k → (j : ℕ) → j < k + 1 → bit (bit_and left (left - 1)) j ≡ false
+none_left left k cl j lt = by_order (cases_lt j k)
+  where
+    by_order : (j < k) ⊎ (k ≤ j) → bit (bit_and left (left - 1)) j ≡ false
+    by_order (inl less) = cl.others j (omega arith) ∙ cl.none j less
+    by_order (inr more) = let e : j ≡ k = omega arith in ap (bit (bit_and left (left - 1))) e ∙ cl.here
+
+-- the lowest bit that is left stands behind all that were walked over
+pub not_before : (left from k : ℕ) → ((j : ℕ) → j < from → bit left j ≡ false) → bit left k ≡ true → from ≤ k
+not_before left from k none set = by_order (cases_lt k from)
+  where
+    by_order : (k < from) ⊎ (from ≤ k) → from ≤ k
+    by_order (inr le) = le
+    by_order (inl lt) = let clash : true ≡ false = sym set ∙ none k lt in cc
 
 -- where a bit is set and none is left, it is among the others
 pub left_none : (s a : Bool) → (s && not a) ≡ false → s ≡ true → a ≡ true

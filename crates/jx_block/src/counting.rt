@@ -1,4 +1,4 @@
-// How many tokens begin in a block.
+// How many tokens begin in a block, and at its lowest level.
 ghost use Rattle.std.specs.Prelude.{◌≡◌, ◌+◌, ◌<◌, ◌≤◌, ◌^◌, ℕ, List, length, slice_range};
 ghost use Rattle.jx_lex.specs.Counts.{HasCounts, number_of};
 ghost use Rattle.jx_lex.specs.Seen.{has_end};
@@ -6,20 +6,28 @@ ghost use Rattle.jx_block.specs.Kinds.{AreKinds};
 ghost use Rattle.jx_block.specs.Listed.{marks_of};
 
 use crate::kinds::TokenKinds;
+use crate::levels::level_counts;
 use jx_lex::TokenCounts;
 
-/// How many tokens of each kind begin in a block.
+/// The number of tokens of each kind that begin in a block, and of commas and values at its lowest level.
 #[inline(always)]
 pub fn counts_of(kinds: &TokenKinds) -> TokenCounts
     ensures { (text ends : List ℕ) (at starts len : ℕ) → AreKinds text at starts kinds.now → at + 64 ≤ length text → len < 64 → starts < 2 ^ len
         → length ends ≡ number_of has_end (marks_of starts 0 at (slice_range text at (at + len)))
         → HasCounts (marks_of starts 0 at (slice_range text at (at + len))) ends result }
 {
+    let opening = kinds.open_arrays | kinds.open_objects;
+    let closing = kinds.close_arrays | kinds.close_objects;
+    let values = kinds.strings | kinds.scalars | opening;
+    let levels = level_counts(opening, closing, kinds.commas, values);
     TokenCounts {
         commas: kinds.commas.count_ones(),
         strings: kinds.strings.count_ones(),
         scalars: kinds.scalars.count_ones(),
-        opening: (kinds.open_arrays | kinds.open_objects).count_ones(),
-        closing: (kinds.close_arrays | kinds.close_objects).count_ones(),
+        opening: opening.count_ones(),
+        closing: closing.count_ones(),
+        lowest: levels.lowest,
+        lowest_commas: levels.commas,
+        lowest_values: levels.values,
     }
 }

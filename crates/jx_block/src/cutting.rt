@@ -27,3 +27,23 @@ pub(crate) fn last_boundary(inside: u64, wrong: u64) -> usize
     }
     boundaries.ilog2() as usize
 }
+
+/// Whether bit k is set.
+#[inline(always)]
+pub fn is_bit(word: u64, k: usize) -> bool
+    requires { k < 64 }
+    ensures { result ≡ bit word k }
+{
+    (word >> k) & 1 == 1
+}
+
+/// The word with the bits after bit k all set, or none of them.
+#[inline(always)]
+pub fn with_behind(word: u64, k: usize, set: bool) -> u64
+    requires { k < 64 }
+    ensures before { (j : ℕ) → j ≤ k → bit result j ≡ bit word j }
+    ensures behind { (j : ℕ) → k < j → j < 64 → bit result j ≡ set }
+{
+    let up_to = u64::MAX >> (63 - k);
+    if set { word | !up_to } else { word & up_to }
+}

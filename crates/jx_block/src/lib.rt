@@ -4,6 +4,7 @@
 mod counting;
 mod cutting;
 mod kinds;
+mod levels;
 mod masks;
 mod numbers;
 mod planes;
@@ -12,6 +13,7 @@ mod scalars;
 mod strings;
 
 pub use counting::counts_of;
+pub use cutting::{is_bit, with_behind};
 pub use kinds::TokenKinds;
 pub use masks::Masks;
 pub use reading::read_tokens;

@@ -45,7 +45,7 @@ pub fn read_tokens(text: &[u8], at: usize) -> Option<Masks>
     let scalars = !(before | blanks | structurals | quotes);
     let firsts = scalars & !(scalars << 1);
     let judged = judged_scalars(text, at, block, scalars, firsts);
-    // What was computed by sums and shifts is looked at once more, bit by bit, so that all that follows rests on this alone.
+    // The results of sums and shifts are checked once more, bit by bit, so that all that follows rests on this alone.
     let wrong = (inside ^ (before ^ real))
         | ((escaped >> 1) ^ (!escaped & backslashes))
         | (escaped & !(letters_where(block, escaped) & before))

@@ -99,7 +99,7 @@ fn visit(text: &[u8], at: usize, scalars: u64, firsts: u64) -> Visited
     Visited { wrong: 0, taken }
 }
 
-/// What is known of the numbers and literals of a block.
+/// The verdict on the numbers and literals of a block.
 #[derive(Clone, Copy)]
 pub(crate) struct Judged {
     /// Where one of them is wrong: at its first byte or behind it, at most at the byte behind its last.

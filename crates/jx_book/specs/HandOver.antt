@@ -7,14 +7,15 @@ use Rattle.jx_claim.specs.Claimed.{times, once_below}
 use Rattle.jx_claim.specs.Undrawn.{With, undrawn, Draws}
 use Rattle.jx_book.specs.Spans.{span, Touch}
 
--- what a worker with this number does
+-- a step of a worker with this number
 pub data Deed : Type 0 where
   draw : ℕ → Deed
   store : ℕ → Deed
   take_neighbour : ℕ → Deed
   stop : ℕ → Deed
 
--- what it holds, no block or one, and whether it has stopped; a block is neighbouring chunks, from `start` up to `end`
+-- the block that it has, none or one, and whether it has stopped; a block is neighbouring chunks, from `start` up to
+-- `end`
 pub record Worker : Type 0 where
   pub hand : List Span
   pub stopped : Bool

@@ -42,7 +42,7 @@ abbrev pub IsLeft : {S : Type 0} → List Span → List ℕ → Hand S → Type 
 IsLeft ps got (Piece p) = EndsWith got p.0
 IsLeft ps got hand = (p : ℕ) × EndsWith got p × HasSpan (slice_index_or ps p no_span) hand
 
--- what may be in the hand where a worker stopped for this cause
+-- the runs that may be in the hand where a worker stopped for this cause
 abbrev pub MayLeave : {S : Type 0} → Cause → Hand S → Type 0
 MayLeave Gate (One r) = ⊥
 MayLeave Gate hand = Unit {0}

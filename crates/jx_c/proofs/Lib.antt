@@ -10,6 +10,7 @@ pub mod Opening
 pub mod Outcomes
 pub mod ReaderSteps
 pub mod Records
+pub mod Refusals
 pub mod Renaming
 pub mod Unboxing
 pub mod Words

@@ -1,4 +1,4 @@
--- What stands in a buffer of the caller's.
+-- The bytes in a buffer of the caller's.
 use Rattle.std.specs.Prelude.{◌≡◌, ℕ, ◌≤◌, List, length, map, take, drop, min}
 
 -- they are shown in the buffer, as many of them as it has room for, and the rest of it is as it was

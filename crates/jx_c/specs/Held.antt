@@ -1,4 +1,4 @@
--- What a handle that C holds owns, of a document or of an index.
+-- The memory that a handle of C owns, of a document or of an index.
 use Rattle.std.specs.Prelude.{Option, Some, None}
 use Rattle.std.specs.contracts.impls.GlobalAllocator.TheImpl.{ghosts}
 use Rattle.std.specs.declared.alloc.Global.{Global}

@@ -53,7 +53,7 @@ row_at index number = shown_if_any (slice_get index.rows number)
 
 -- ---- many pointers in one text
 
--- what was found for each of them that is a pointer
+-- the answer was found for each of them that is a pointer
 abbrev pub AreFound : Settings → List ℕ → List JxPointer → List (Result Found FindFault) → Type 0
 AreFound settings text = AllZip (λ (pointer : JxPointer) (found : Result Found FindFault). IsSpelt pointer.bytes.now → IsFoundBy settings text pointer.bytes.now (Ok found))
 

@@ -3,6 +3,7 @@ pub mod Compact
 pub mod Containers
 pub mod Document
 pub mod Elements
+pub mod Explained
 pub mod Held
 pub mod Indexes
 pub mod Lines

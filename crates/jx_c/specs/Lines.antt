@@ -41,7 +41,7 @@ end_of t = t.lines.reader.start + t.lines.reader.count
 abbrev pub IsNew : Settings → Option TallyValue → Type 0
 IsNew settings held = (t : TallyValue) × (held ≡ Some t) × HasTaken settings [] [] t
 
--- whatever input it was fed, now it was fed these bytes after it
+-- after any input that it was fed, now it was fed these bytes
 abbrev pub IsFed : TallyValue → List ℕ → Option TallyValue → Type 0
 IsFed old bytes held =
     (t : TallyValue) × (held ≡ Some t) × ((settings : Settings) (input : List ℕ) (given : List JudgedLine) → HasTaken settings input given old → HasTaken settings (input ++ bytes) given t)

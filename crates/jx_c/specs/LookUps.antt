@@ -48,7 +48,7 @@ IsSpelt pointer = IsUtf8 pointer × IsPointer pointer
 abbrev pub IsPointerOf : List ℕ → List ℕ → Type 0
 IsPointerOf pointer read = IsSpelt pointer → read ≡ pointer
 
--- what each pointer leads to in an accepted text
+-- the answer to each pointer in an accepted text
 abbrev pub AreFoundBy : Settings → List ℕ → List (List ℕ) → List (Result finder.Found FindFault) → Type 0
 AreFoundBy settings text pointers all = AllZip (λ (pointer : List ℕ) (found : Result finder.Found FindFault). IsFoundBy settings text pointer (Ok found)) pointers all
 

@@ -66,7 +66,7 @@ abbrev pub IsRefused : List ℕ → ℕ → ℕ → Type 0
 IsRefused bytes size status =
     ((fault : SavedFault) × (status ≡ status_of fault) × SaysOf bytes fault) ⊎ ((status ≡ 1) ⊎ ((status ≡ 26) × ((saved : SavedText) × (spelt_saved saved ≡ bytes) × (saved.index.size ≢ size))))
 
--- what an index says of its text
+-- the facts that an index has of its text
 abbrev pub shown_text : Index → JxSavedText
 shown_text i = record { size = i.size; chunk = i.chunk; depth = i.settings.depth; flags = front_flags i.settings.mark i.settings.names }
 
@@ -89,7 +89,7 @@ pub record IsSeeking (settings : Settings) (chunk : ℕ) (text : List ℕ) (poin
   pub spelt : AllZip (λ (pointer : JxPointer). IsPointerOf pointer.bytes.now) pointers read
   pub come : HasWalked settings chunk text read saved w
 
--- what goes on is such a look-up of these pointers
+-- the work that goes on is such a look-up of these pointers
 abbrev pub HasSought : Settings → ℕ → List ℕ → List JxPointer → SavedText → IndexWork → Type 0
 HasSought settings chunk text pointers saved Nothing = ⊥
 HasSought settings chunk text pointers saved (Seeking given w) = IsSeeking settings chunk text pointers saved given.now w
@@ -145,7 +145,7 @@ AreOthers saved work bytes = (settings : Settings) (chunk : ℕ) (text : List �
 abbrev pub IsOfNone : SavedText → IndexWork → List ℕ → Type 0
 IsOfNone saved work bytes = (settings : Settings) (chunk : ℕ) (text : List ℕ) → HasCome settings chunk text saved work → IsTold text saved.index work bytes → ⊥
 
--- what goes on is a look-up
+-- the work that goes on is a look-up
 abbrev pub IsALookUpBy : IndexWork → Type 0
 IsALookUpBy Nothing = ⊥
 IsALookUpBy (Seeking given w) = Unit {0}
@@ -154,7 +154,7 @@ IsALookUpBy (Splitting p) = ⊥
 abbrev pub IsALookUp : OpenedIndex → Type 0
 IsALookUp s = IsALookUpBy s.work
 
--- what goes on is a split
+-- the work that goes on is a split
 abbrev pub IsASplitBy : IndexWork → Type 0
 IsASplitBy Nothing = ⊥
 IsASplitBy (Seeking given w) = ⊥

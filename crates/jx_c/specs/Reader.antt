@@ -1,4 +1,4 @@
--- What the fields of a reader mean, whatever stands in them, and the bytes that it was fed.
+-- The meaning of the fields of a reader, for any values in them, and the bytes that it was fed.
 use Rattle.std.specs.Prelude.{◌≡◌, ◌==◌, ◌%◌, ℕ, List, length, slice_index_or, if◌then◌else◌}
 use Rattle.jx_lex.specs.Ordinal.{all_states}
 use Rattle.jx_lex.specs.declared.alphabet.state.LexState.{LexState}

@@ -24,7 +24,7 @@ HasRead has_names settings chunk bytes (Saved index) = ⊥
 abbrev pub IsBegun : Bool → Settings → ℕ → Option Saver → Type 0
 IsBegun has_names settings chunk held = (s : Saver) × (held ≡ Some s) × HasRead has_names settings chunk [] s
 
--- whatever it was fed, now it was fed these bytes after it
+-- after any bytes that it was fed, now it was fed these
 abbrev pub IsFed : Saver → List ℕ → Option Saver → Type 0
 IsFed old bytes held = (s : Saver) × (held ≡ Some s)
     × ((has_names : Bool) (settings : Settings) (chunk : ℕ) (text : List ℕ) → HasRead has_names settings chunk text old → HasRead has_names settings chunk (text ++ bytes) s)

@@ -30,7 +30,7 @@ end_of s = finder.end_of s.finder
 abbrev pub IsBegun : Settings → List JxPointer → Option SeekingValue → Type 0
 IsBegun settings pointers held = (s : SeekingValue) × (held ≡ Some s) × HasSought settings pointers [] s
 
--- whatever text it was fed, now it was fed these bytes after it
+-- after any text that it was fed, now it was fed these bytes
 abbrev pub IsFed : SeekingValue → List ℕ → Option SeekingValue → Type 0
 IsFed old bytes held = (s : SeekingValue) × (held ≡ Some s)
     × ((settings : Settings) (pointers : List JxPointer) (text : List ℕ) → HasSought settings pointers text old → HasSought settings pointers (text ++ bytes) s)

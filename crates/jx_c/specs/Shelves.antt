@@ -1,4 +1,4 @@
--- What a handle of a shelf holds: which shelf it is of, and which index was seen there by it.
+-- The fields of a handle of a shelf: which shelf it is of, and which index was seen there by it.
 use Rattle.std.specs.Prelude.{◌≡◌, Option, None, Some, IsSome}
 use Rattle.jx_index.specs.Indexed.{IndexedValue}
 use Rattle.jx_shelf.specs.Shelved.{Keeps, NoteValue}

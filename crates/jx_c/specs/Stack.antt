@@ -1,4 +1,4 @@
--- What the fields of a stack mean, whatever stands in them.
+-- The meaning of the fields of a stack, for any values in them.
 use Rattle.std.specs.Prelude.{ℕ, ◌==◌, List, if◌then◌else◌}
 use Rattle.jx_reduce.specs.KnownStack.{Known}
 use Rattle.jx_reduce.specs.Read.{Reading, went, stopped, too_deep}

@@ -26,7 +26,7 @@ use Rattle.jx_c.specs.declared.streams.stream.JxOutcome.{JxOutcome}
 
 -- ---- what a stream was fed
 
--- what makes the lines, and the look-up beside it where the pointer has tokens
+-- the maker of the lines, and the look-up beside it where the pointer has tokens
 pub record StreamValue : Type 0 where
   pub each : EachValue
   pub sought : Option Finder
@@ -50,7 +50,7 @@ end_of s = s.each.reader.start + s.each.reader.count
 abbrev pub IsBegun : Settings → List ℕ → Option StreamValue → Type 0
 IsBegun settings pointer held = (s : StreamValue) × (held ≡ Some s) × HasStreamed settings pointer [] [] s
 
--- whatever it was fed, now it was fed these bytes after it
+-- after any input that it was fed, now it was fed these bytes
 abbrev pub IsFed : StreamValue → List ℕ → Option StreamValue → Type 0
 IsFed old bytes held =
     (s : StreamValue) × (held ≡ Some s) × ((settings : Settings) (pointer input given : List ℕ) → HasStreamed settings pointer input given old → HasStreamed settings pointer (input ++ bytes) given s)

@@ -1,4 +1,4 @@
-//! What C calls: thin exports over the crates that check and index JSON texts.
+//! The calls of C: thin exports over the crates that check and index JSON texts.
 #![tactic(auto)]
 
 mod editing;

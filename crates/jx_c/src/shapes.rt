@@ -1,4 +1,4 @@
-// What several calls take and answer.
+// Types that several calls take and answer.
 pub(crate) mod buffers;
 pub(crate) mod handle;
 pub(crate) mod places;

@@ -5,6 +5,7 @@ pub(crate) mod catalog;
 pub(crate) mod check;
 pub(crate) mod compact;
 pub(crate) mod elements;
+pub(crate) mod explain;
 pub(crate) mod held_index;
 pub(crate) mod held_shelf;
 pub(crate) mod index;

@@ -141,7 +141,8 @@ impl Cutting {
         self.len
     }
 
-    /// Where the first chunk begins, in bytes from the start of the text; the length, where there is no chunk.
+    /// The offset at which the first chunk begins, in bytes from the start of the text; the length, where there is no
+    /// chunk.
     pub fn front(&self) -> usize
         ensures front { result ≡ self.now.front }
         ensures within { result ≤ self.now.len }
@@ -149,7 +150,7 @@ impl Cutting {
         self.front
     }
 
-    /// How many chunks there are.
+    /// The number of chunks.
     pub fn count(&self) -> u32
         ensures count { result ≡ length self.now.pieces }
         ensures none { self.now.len ≡ 0 → result ≡ 0 }

@@ -16,7 +16,7 @@ pub enum PieceList {
 }
 
 impl PieceList {
-    /// How many chunks there are.
+    /// The number of chunks.
     pub fn count(&self) -> usize
         ensures { (len : ℕ) → result ≡ length (listed len self.now) }
     {
@@ -54,7 +54,7 @@ impl PieceList {
         }
     }
 
-    /// How many chunks of a text of this length end at an offset or before it.
+    /// The number of chunks of a text of this length that end at an offset or before it.
     pub fn ended(&self, len: usize, offset: usize) -> usize
         requires covers { Tiles 0 (listed len self.now) len }
         requires regular { IsRegular len self.now }

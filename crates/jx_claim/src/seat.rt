@@ -40,7 +40,7 @@ impl ClaimSeat {
         }
     }
 
-    /// Its place in the vector that `Claims::open` gave, counted from 0.
+    /// The place in the vector that `Claims::open` gave, counted from 0.
     pub fn number(&self) -> usize
         ensures { result ≡ self.now.number }
     {

@@ -36,20 +36,20 @@ abbrev pub output_of : Split → List ℕ
 output_of (Ok found) = part_lines found.items
 output_of (Err answer) = []
 
-abbrev pub tells_of : Split → List ℕ
-tells_of (Ok found) = []
-tells_of (Err answer) = told_words answer
+abbrev pub tells_of : List ℕ → Split → List ℕ
+tells_of pointer (Ok found) = []
+tells_of pointer (Err answer) = told_words pointer answer
 
 abbrev pub exit_of : Split → Exit
 exit_of (Ok found) = Good
 exit_of (Err answer) = Bad
 
-no_parts : (parts : ℕ) (pointer text : List ℕ) (tree : Tree) (answer : PointerAnswer) → HasNoParts pointer text tree answer → Splits parts pointer text tree [] (told_words answer) Bad
+no_parts : (parts : ℕ) (pointer text : List ℕ) (tree : Tree) (answer : PointerAnswer) → HasNoParts pointer text tree answer → Splits parts pointer text tree [] (told_words pointer answer) Bad
 no_parts parts pointer text tree _ (inside.unread fault h) = unread fault h
 no_parts parts pointer text tree _ (inside.lost fault p e) = lost fault p e
 no_parts parts pointer text tree _ (inside.scalar p x) = scalar x.there p x.led_there x.no_container
 
-splits_by : (parts : ℕ) (pointer text : List ℕ) (tree : Tree) (answer : Split) → ComesToParts parts pointer text tree answer → Splits parts pointer text tree (output_of answer) (tells_of answer) (exit_of answer)
+splits_by : (parts : ℕ) (pointer text : List ℕ) (tree : Tree) (answer : Split) → ComesToParts parts pointer text tree answer → Splits parts pointer text tree (output_of answer) (tells_of pointer answer) (exit_of answer)
 splits_by parts pointer text tree (Ok found) h =
     subst (λ (ps : List ContainerPart). Splits parts pointer text tree (part_lines ps) [] Good) (sym h.parts_are) (container h.there h.is_pointer h.led_there h.is_container)
 splits_by parts pointer text tree (Err answer) h = no_parts parts pointer text tree answer h
@@ -58,10 +58,10 @@ abbrev pub Answers : ℕ → List ℕ → Option (List ℕ) → SavedText → Sp
 Answers parts pointer content read answer = (settings : Settings) (chunk : ℕ) (text all : List ℕ) → IsKeptOf settings chunk text read → content ≡ Some all → TellsApart chunk text all → AreSplit settings parts pointer text answer
 
 pub are_parts : (parts : ℕ) (pointer : List ℕ) (saved content : Option (List ℕ)) (read : SavedText) (r answer : Split) → Reads saved read → Answers parts pointer content read r → r ≡ answer
-    → AreParts parts pointer saved content (output_of answer) (tells_of answer) (exit_of answer)
+    → AreParts parts pointer saved content (output_of answer) (tells_of pointer answer) (exit_of answer)
 are_parts parts pointer saved content read r answer reads answered e = λ settings chunk text bytes file s of is tells.
     let h = answered settings chunk text file (read_is saved read reads settings chunk text bytes s of) is tells in
-    subst (λ (x : Split). SplitOutput settings parts pointer text (output_of x) (tells_of x) (exit_of x)) e
+    subst (λ (x : Split). SplitOutput settings parts pointer text (output_of x) (tells_of pointer x) (exit_of x)) e
     (record { tree = h.tree; is_text = h.is_text; splits = splits_by parts pointer text h.tree r h.comes })
 
 -- ---- what a pointer leads to

@@ -17,6 +17,7 @@ use Rattle.jx_words.specs.declared.pointer_answer.PointerAnswer.{PointerAnswer}
 use Rattle.jx_words.specs.declared.pointer_answer.PointerAnswer.TheVariants.{Unread, Lost}
 use Rattle.jx_ends.specs.Ends.{AppendsBeginning}
 use Rattle.jx_words.specs.Pointers.{answer_words}
+use Rattle.jx_words.specs.Showing.{shown}
 use Rattle.jx_words.specs.Words.{line, span_words}
 use Rattle.jx_file_query.specs.declared.part.ContainerPart.{ContainerPart}
 use Rattle.jx_file_query.specs.Parts.{IsContainer, parts_of}
@@ -29,18 +30,18 @@ part_words p = span_words p.span ++ codes " " ++ span_words (span p.first p.end)
 abbrev pub part_lines : List ContainerPart → List ℕ
 part_lines ps = flat_map (λ (p : ContainerPart). line (part_words p)) ps
 
--- why there are no parts
-abbrev pub told_words : PointerAnswer → List ℕ
-told_words answer = codes "jx: " ++ line (answer_words answer)
+-- POINTER: WORDS, why there are no parts
+abbrev pub told_words : List ℕ → PointerAnswer → List ℕ
+told_words pointer answer = shown pointer ++ codes ": " ++ line (answer_words answer)
 
 -- ---- in a text with this tree
 
 -- a line for each part of the container that the pointer leads to, or why it leads to none
 pub data Splits (parts : ℕ) (pointer text : List ℕ) (tree : Tree) : List ℕ → List ℕ → Exit → Type 0 where
-  unread : (fault : PointerFault) → IsFaultOf pointer fault → Splits parts pointer text tree [] (told_words (Unread fault)) Bad
-  lost : (fault : FindFault) → IsPointer pointer → led text tree (tokens pointer) ≡ Err fault → Splits parts pointer text tree [] (told_words (Lost fault)) Bad
+  unread : (fault : PointerFault) → IsFaultOf pointer fault → Splits parts pointer text tree [] (told_words pointer (Unread fault)) Bad
+  lost : (fault : FindFault) → IsPointer pointer → led text tree (tokens pointer) ≡ Err fault → Splits parts pointer text tree [] (told_words pointer (Lost fault)) Bad
   scalar : (there : Numbered) → IsPointer pointer → led text tree (tokens pointer) ≡ Ok there → (IsContainer (kind_of there.tree) → ⊥)
-      → Splits parts pointer text tree [] (told_words (Lost (NotAContainer (length (tokens pointer))))) Bad
+      → Splits parts pointer text tree [] (told_words pointer (Lost (NotAContainer (length (tokens pointer))))) Bad
   container : (there : Numbered) → IsPointer pointer → led text tree (tokens pointer) ≡ Ok there → IsContainer (kind_of there.tree)
       → Splits parts pointer text tree (part_lines (parts_of parts text there.tree)) [] Good
 

@@ -1,5 +1,5 @@
 -- The output and the report for an input whose index is saved.
-use Rattle.std.specs.Prelude.{◌≡◌, ℕ, List, [], ◌++◌, Bool, codes}
+use Rattle.std.specs.Prelude.{◌≡◌, ℕ, List, [], Bool}
 use Rattle.jx_run.specs.declared.texts.settings.Settings.{Settings}
 use Rattle.jx_run.specs.declared.texts.verdict.Refusal.{Refusal}
 use Rattle.jx_run.specs.declared.texts.verdict.Verdict.{Verdict}
@@ -25,10 +25,10 @@ pub record GivesIndex (has_names : Bool) (settings : Settings) (chunk : ℕ) (te
   pub told : tells ≡ []
   pub ends : exit ≡ Good
 
--- for what is refused: nothing is written, and jx: VERDICT is reported
+-- for what is refused: nothing is written, and the verdict is reported
 pub record GivesNoIndex (refusal : Refusal) (output tells : List ℕ) (exit : Exit) : Type 0 where
   pub written : output ≡ []
-  pub told : tells ≡ codes "jx: " ++ line (refusal_words refusal)
+  pub told : tells ≡ line (refusal_words refusal)
   pub ends : exit ≡ Bad
 
 abbrev pub GivesByVerdict : Bool → Settings → ℕ → List ℕ → Verdict → List ℕ → List ℕ → Exit → Type 0

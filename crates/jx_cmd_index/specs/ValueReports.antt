@@ -24,7 +24,7 @@ pub record WritesValues (form : Form) (pointers : List (List ℕ)) (saved conten
   pub wrote : Appends written grown output
   pub says : is_lost ≡ false → Appends told retold tells
 
--- what is written for the first of the pointers was written, so many
+-- the values of the first of the pointers were written, so many
 pub record WritesFirst (form : Form) (pointers : List (List ℕ)) (saved content written grown : Option (List ℕ)) : Type 0 where
   pub count : ℕ
   pub output : List ℕ

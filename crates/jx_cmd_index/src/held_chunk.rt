@@ -22,7 +22,7 @@ pub(crate) struct HeldChunk {
 }
 
 impl HeldChunk {
-    /// No bytes.
+    /// The chunk without bytes.
     pub fn none(alloc: Global) -> HeldChunk
         ensures start { result.span.start ≡ 0 }
         ensures end { result.span.end ≡ 0 }
@@ -42,7 +42,7 @@ impl HeldChunk {
         self.span.start <= at && at < self.span.end
     }
 
-    /// Its bytes from one offset of the text to another.
+    /// The bytes from one offset of the text to another.
     pub fn part(&self, from: usize, to: usize) -> &[u8]
         requires start { self.now.span.start ≤ from }
         requires order { from ≤ to }

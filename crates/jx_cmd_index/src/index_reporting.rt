@@ -1,18 +1,16 @@
 // Writes the index of an input, or reports why there is none.
-ghost use Rattle.std.specs.Prelude.{◌≡◌, ◌≢◌, ◌↔◌, ◌++◌, true, false, codes, IfOk, IfErr, IsErrOf, OnErr, OnOk};
+ghost use Rattle.std.specs.Prelude.{◌≡◌, ◌≢◌, ◌↔◌, true, false, IfOk, IfErr, IsErrOf, OnErr, OnOk};
 ghost use Rattle.std.specs.Io.KnownBytes.{Appends};
 ghost use Rattle.jx_ends.specs.Ends.{AppendsBeginning};
-ghost use Rattle.jx_words.specs.Words.{line, refusal_words};
 ghost use Rattle.jx_file_index.specs.TextSpelling.{spelt_saved};
 ghost use Rattle.jx_cmd_index.specs.SaveReports.{ReportsIndex, ReportsIndexInPart};
 
 use crate::text_reading::read_text;
 use jx_ends::{Exit, ReportFault, Sink, Source, write_whole};
 use jx_file_index::{ChunkSize, SavedText};
-use jx_run::{Refusal, Settings};
-use jx_values::tell;
-use jx_words::add_refusal;
-use std::alloc::{AllocError, Global};
+use jx_run::Settings;
+use jx_values::{tell, told_of_refusal};
+use std::alloc::Global;
 
 /// How many bytes are read at a time, at least. They are looked at before they leave the processor's cache.
 const BATCH: usize = 256 * 1024;
@@ -31,17 +29,8 @@ fn write_saved<W: Sink>(alloc: Global, writer: &mut W, saved: &SavedText) -> Res
     write_whole(writer, &bytes)
 }
 
-/// The report on a text that is refused.
-fn told_of_refusal(alloc: Global, refusal: Refusal) -> Result<Vec<u8>, AllocError>
-    ensures { IfOk result (λ told. told.items ≡ codes "jx: " ++ line (refusal_words refusal)) }
-{
-    let mut told = Vec::from_slice(alloc, b"jx: ")?;
-    add_refusal(&mut told, refusal)?;
-    Ok(told)
-}
-
 /// Reads a text to the end of input, and then writes the bytes of its index, for chunks of this size, with tables of
-/// its names after it where these are asked for. Of an input that is refused nothing is written, and `jx: VERDICT` is
+/// its names after it where these are asked for. Of an input that is refused nothing is written, and its verdict is
 /// reported. The status is good where nothing is reported.
 ///
 /// Of the input one batch is kept, or one chunk where that is longer, and the entries of its chunks, which are 24 bytes

@@ -46,7 +46,7 @@ pub(crate) fn look_up<S: Source, F: ReadAt>(
     // Each fault of the index or of the text is one.
     ensures fault { IfErr result (FailsFor (S.remaining saved.old) (F.content file.old)) }
     ensures unwritten { IfErr result (λ fault. fault ≢ LookFault.Write) }
-    // What is wrong with the index is reported before the text is read.
+    // A fault of the index is reported before the text is read.
     ensures unread { IfErr result (λ fault. IsOfText fault ⊎ (file.new ≡ file.old)) }
 {
     let read = read_saved(alloc, saved, file.size())?;

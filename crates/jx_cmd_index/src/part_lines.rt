@@ -5,7 +5,7 @@ ghost use Rattle.jx_cmd_index.specs.PartReports.{part_lines, part_words, told_wo
 
 use jx_file_query::ContainerPart;
 use jx_lex::Span;
-use jx_words::{PointerAnswer, add_answer, add_span};
+use jx_words::{PointerAnswer, add_answer, add_span, shown_name};
 use std::alloc::{AllocError, Global};
 
 /// Appends the line of a part.
@@ -33,11 +33,16 @@ pub(crate) fn part_lines(alloc: Global, parts: &[ContainerPart]) -> Result<Vec<u
     Ok(lines)
 }
 
-/// The report on a string that has no parts.
-pub(crate) fn told_of(alloc: Global, answer: PointerAnswer) -> Result<Vec<u8>, AllocError>
-    ensures { IfOk result (λ told. told.items ≡ told_words answer) }
+/// The report on a string that leads to no parts.
+pub(crate) fn told_of(
+    alloc: Global,
+    pointer: &str,
+    answer: PointerAnswer,
+) -> Result<Vec<u8>, AllocError>
+    ensures { IfOk result (λ told. told.items ≡ told_words pointer.now answer) }
 {
-    let mut told = Vec::from_slice(alloc, b"jx: ")?;
+    let mut told = shown_name(alloc, pointer)?;
+    told.extend_from_slice(b": ")?;
     add_answer(&mut told, answer)?;
     Ok(told)
 }

@@ -15,7 +15,7 @@ use std::alloc::Global;
 
 /// Reads an index to its end, and writes a line `S..E I..J` for each part of a container of its text that has a child.
 /// The container is the one that a string, read as a pointer, leads to; where it leads to none, nothing is written, and
-/// `jx: WORDS` is reported. The status is good where nothing is reported.
+/// `POINTER: WORDS` is reported. The status is good where nothing is reported.
 ///
 /// The index is kept, and of the text one chunk; each part takes a few words. The report on the index, of the size of
 /// the text and of chunks is as by `report_places`. All lines are made before the first one is written.
@@ -31,7 +31,7 @@ pub fn report_parts<S: Source, F: ReadAt, W: Sink, E: Sink>(
     requires saved { S.has_failed saved.old ≡ false }
     requires file { F.has_failed file.old ≡ false }
     requires writer { W.has_failed writer.old ≡ false }
-    // What is written is what the text that was indexed has.
+    // The output has the parts of the text that was indexed.
     ensures ok { IfOk result (λ exit. WritesParts parts pointer.now (S.remaining saved.old) (F.content file.old) (W.contents writer.old) (W.contents writer.new)
         (E.has_failed errors.new) (E.contents errors.old) (E.contents errors.new) exit) }
     ensures saved_read { IsErrOf result LookFault.SavedRead ↔ (S.has_failed saved.new ≡ true) }
@@ -44,7 +44,7 @@ pub fn report_parts<S: Source, F: ReadAt, W: Sink, E: Sink>(
     ensures beginning { IsErrOf result LookFault.Write → WritesPartsInPart parts pointer.now (S.remaining saved.old) (F.content file.old) (W.contents writer.old) (W.contents writer.new) }
     // Each fault of the index or of the text is one.
     ensures fault { IfErr result (FailsFor (S.remaining saved.old) (F.content file.old)) }
-    // What is wrong with the index is reported before the text is read.
+    // A fault of the index is reported before the text is read.
     ensures unread { IfErr result (λ fault. IsOfText fault ⊎ (fault ≡ LookFault.Write) ⊎ (file.new ≡ file.old)) }
 {
     let read = read_saved(alloc, saved, file.size())?;
@@ -55,7 +55,7 @@ pub fn report_parts<S: Source, F: ReadAt, W: Sink, E: Sink>(
             Ok(Exit::Good)
         }
         Err(answer) => {
-            let told = told_of(alloc, answer)?;
+            let told = told_of(alloc, pointer, answer)?;
             tell(errors, &told);
             Ok(Exit::Bad)
         }

@@ -41,7 +41,7 @@ pub fn report_places<S: Source, F: ReadAt, W: Sink>(
     requires saved { S.has_failed saved.old ≡ false }
     requires file { F.has_failed file.old ≡ false }
     requires writer { W.has_failed writer.old ≡ false }
-    // What is written is what `at` writes on the text that was indexed.
+    // The output is that of `at` on the text that was indexed.
     ensures ok { IfOk result (λ exit. WritesPlaces (map string_bytes pointers.now) (S.remaining saved.old) (F.content file.old)
         (W.contents writer.old) (W.contents writer.new) exit) }
     ensures saved_read { IsErrOf result LookFault.SavedRead ↔ (S.has_failed saved.new ≡ true) }
@@ -54,7 +54,7 @@ pub fn report_places<S: Source, F: ReadAt, W: Sink>(
         (W.contents writer.old) (W.contents writer.new) }
     // Each fault of the index or of the text is one.
     ensures fault { IfErr result (FailsFor (S.remaining saved.old) (F.content file.old)) }
-    // What is wrong with the index is reported before the text is read.
+    // A fault of the index is reported before the text is read.
     ensures unread { IfErr result (λ fault. IsOfText fault ⊎ (fault ≡ LookFault.Write) ⊎ (file.new ≡ file.old)) }
 {
     let Looked { answers, .. } = look_up(alloc, saved, file, pointers)?;

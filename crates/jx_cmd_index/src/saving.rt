@@ -83,7 +83,7 @@ fn finish_by_names(
 }
 
 impl Saving {
-    /// Before the first byte.
+    /// The state before the first byte.
     pub fn new(alloc: Global, settings: &Settings, chunk: ChunkSize, has_names: bool) -> Saving
         ensures { IsSavingOf has_names settings.now chunk [] result }
     {

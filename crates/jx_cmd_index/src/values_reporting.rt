@@ -13,7 +13,7 @@ use std::alloc::Global;
 
 /// Reads an index to its end, looks pointers up in the text by it, and writes a line for each, in their order, as `get`
 /// does: the bytes of its value, their compact form, or where texts are asked for that of a string. The line is empty
-/// where there is none of these. After that it reports why, by a line `jx: POINTER: ANSWER`. The status is good where
+/// where there is none of these. After that it reports why, by a line `POINTER: ANSWER`. The status is good where
 /// nothing is reported.
 ///
 /// The index is kept, and of the text a chunk and a value at a time. Bytes that are not an index, or an index of a text
@@ -48,7 +48,7 @@ pub fn report_values_by_index<S: Source, F: ReadAt, W: Sink, E: Sink>(
     ensures untold { OnErr result (errors.new ≡ errors.old) }
     // Each fault of the index or of the text is one.
     ensures fault { IfErr result (FailsFor (S.remaining saved.old) (F.content file.old)) }
-    // What is wrong with the index is reported before the text is read, and before anything is written.
+    // A fault of the index is reported before the text is read, and before anything is written.
     ensures unread { IfErr result (λ fault. IsOfText fault ⊎ (fault ≡ LookFault.Write) ⊎ ((file.new ≡ file.old) × (writer.new ≡ writer.old))) }
 {
     let Looked { index, answers } = look_up(alloc, saved, file, pointers)?;

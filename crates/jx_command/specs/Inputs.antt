@@ -1,4 +1,4 @@
--- What the words of a command name that is read.
+-- The inputs that the words of a command name.
 use Rattle.std.specs.Prelude.{◌≡◌, ◌≢◌, ℕ, List, [], ◌∷◌, Bool, codes, map}
 use Rattle.std.specs.Str.{bytes_eq}
 use Rattle.jx_command.specs.declared.inputs.Input.{Input}
@@ -29,7 +29,7 @@ abbrev pub AreSeveral : List (List ℕ) → Inputs → Type 0
 AreSeveral words (One input) = ⊥
 AreSeveral words (Several named) = map (λ word. word.now) named.items ≡ words
 
--- what words name: standard input where there is none, what one word names, or what all of them name
+-- the inputs that words name: standard input where there is none, the input that one word names, or all that they name
 abbrev pub AreInputsOf : List (List ℕ) → Inputs → Type 0
 AreInputsOf [] inputs = IsOne (λ input. input ≡ Standard) inputs
 AreInputsOf (word ∷ []) inputs = IsOne (IsInputOf word) inputs

@@ -1,4 +1,4 @@
--- What holds of an order.
+-- The invariant of an order.
 use Rattle.std.specs.Prelude.{◌≤◌, ⊤}
 use Rattle.jx_command.specs.declared.order.Order.{Order}
 use Rattle.jx_command.specs.declared.order.Order.TheVariants.{Report, Parts, Values, Each, Lines, Live, Save, Split}

@@ -15,6 +15,9 @@ pub enum ArgFault {
     /// No chunk has so many bytes.
     #[error("error: invalid value for '--chunk <N>': N is no power of two")]
     Chunk,
+    /// A row with this word would have other cells.
+    #[error("error: invalid value for '--null <WORD>': WORD has a tab, a comma, a quotation mark or a line end")]
+    Null,
     /// An allocation failed.
     #[error("jx: out of memory")]
     Memory,

@@ -1,7 +1,7 @@
-// What an option or a word of a command is, as data.
+// Options and words of a command, as data.
 use clap::builder::ValueParser;
 
-/// What a command may be given.
+/// An option or an argument that a command may be given.
 #[derive(Clone, Copy)]
 pub(crate) struct ArgRow {
     /// The name by which the orders ask for its value.

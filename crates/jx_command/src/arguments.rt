@@ -5,13 +5,13 @@ ghost use Rattle.jx_command.specs.Orders.{HasPieces};
 use crate::arg_fault::ArgFault;
 use crate::called::Called;
 use crate::command_rows::called_by;
-use crate::each_arguments::each_order_from;
+use crate::each_arguments::{each_form_of, each_order_from};
 use crate::grammar::grammar;
 use crate::inputs::{Input, Inputs, inputs_of, named_inputs_of, reads_standard_twice};
 use crate::lines_arguments::lines_order_from;
 use crate::live_arguments::{is_live, live_order_from};
 use crate::options::{depth_of, progress_of};
-use crate::order::Order;
+use crate::order::{EachForm, Order};
 use crate::parts_arguments::{join_order_from, part_order_from, whole_order_from};
 use crate::request::{Color, Request, TellAccepted, Told};
 use crate::save_arguments::save_order_from;
@@ -134,7 +134,7 @@ fn word_of_file<'a>(file: &'a str) -> &'a str {
     if file == "-" { "./-" } else { file }
 }
 
-/// What is read, each after its name: the file of an option, or what words name.
+/// The inputs, each after its name: the file of an option, or the inputs that words name.
 fn inputs_behind_names<'a>(
     options: &ArgMatches<'a>,
     mut words: Vec<&'a str>,
@@ -145,7 +145,7 @@ fn inputs_behind_names<'a>(
     named_inputs_of(words)
 }
 
-/// What is read: the file of an option, or what words name.
+/// The inputs: the file of an option, or those that words name.
 pub(crate) fn inputs_named<'a>(
     options: &ArgMatches<'a>,
     words: Result<Vec<&'a str>, AllocError>,
@@ -236,7 +236,7 @@ fn look_up_order<'a>(
     }
 }
 
-/// What is asked of a sequence by these options.
+/// The order for a sequence by these options.
 fn sequence_order<'a>(
     alloc: Global,
     workers: Workers,
@@ -258,13 +258,17 @@ fn values_order<'a>(
 ) -> Result<Order<'a>, ArgFault>
     ensures { IfOk result HasPieces }
 {
-    match values_order_from(alloc, workers, options) {
-        Ok(order) => Ok(Order::Values(order)),
-        Err(_) => Err(ArgFault::Memory),
-    }
+    Ok(Order::Values(values_order_from(alloc, workers, options)?))
 }
 
-/// What a command and its options ask for.
+/// The order of elements by these options.
+fn elements_order<'a>(form: EachForm, workers: Workers, options: &ArgMatches<'a>) -> Order<'a>
+    ensures { HasPieces result }
+{
+    Order::Each(each_order_from(form, workers, options))
+}
+
+/// The order of a command and its options.
 fn order_from<'a>(
     alloc: Global,
     called: Called,
@@ -282,7 +286,9 @@ fn order_from<'a>(
         Called::At => look_up_order(alloc, workers, options),
         Called::Seq => sequence_order(alloc, workers, options),
         Called::Get => values_order(alloc, workers, options),
-        Called::Each => Ok(Order::Each(each_order_from(workers, options))),
+        Called::Each => Ok(elements_order(each_form_of(options), workers, options)),
+        Called::Keys => Ok(elements_order(EachForm::Names, workers, options)),
+        Called::Count => Ok(elements_order(EachForm::Count, workers, options)),
         Called::Lines => Ok(Order::Lines(lines_order_from(alloc, workers, options)?)),
         Called::Save => Ok(Order::Save(save_order_from(options)?)),
         Called::Split => Ok(Order::Split(split_order_from(options))),
@@ -292,9 +298,9 @@ fn order_from<'a>(
     }
 }
 
-/// What the words ask for, the first of which is the program's name. Each FILE and each POINTER are taken as they stand:
-/// they are not cut, trimmed or read. Where the words are no command, or ask for help or the version, `Err` has what is
-/// of the message. The grammar has no arguments without a command, so that what is here for them is never met.
+/// The order that the words give, the first of which is the program's name. Each FILE and each POINTER are taken as they stand: they are not cut,
+/// trimmed or read. Where the words are no command, or ask for help or the version, `Err` has the parts of the message. The grammar has no arguments
+/// without a command, so that what is here for them is never met.
 ///
 /// `--workers auto` is as many workers as there are processors, at least 1 and at most 16.
 pub fn command_of<'a>(

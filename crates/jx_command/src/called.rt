@@ -8,6 +8,8 @@ pub(crate) enum Called {
     At,
     Get,
     Each,
+    Keys,
+    Count,
     Seq,
     Lines,
     Save,

@@ -8,7 +8,7 @@ use crate::{help, option_rows as option};
 pub(crate) struct CommandRow {
     /// The word that calls it.
     pub(crate) name: &'static str,
-    /// What it does, in a line.
+    /// The line of help that says what it does.
     pub(crate) about: &'static str,
     /// The text after its options in the long help.
     pub(crate) after: &'static str,
@@ -123,6 +123,9 @@ const GET: CommandRow = CommandRow {
         option::RAW,
         option::BY_LINE,
         option::SKIP_BLANK_BY_LINE,
+        option::TABLE,
+        option::HEADER,
+        option::NULL,
         option::GET_INDEX,
     ],
 };
@@ -144,6 +147,42 @@ const EACH: CommandRow = CommandRow {
         },
         option::IGNORE_BOM,
         option::PROGRESS,
+    ],
+};
+
+const KEYS: CommandRow = CommandRow {
+    name: "keys",
+    about: help::KEYS,
+    after: help::AFTER_KEYS,
+    args: &[
+        option::CONTAINER,
+        option::ONE_FILE,
+        option::FILE,
+        option::DEPTH,
+        option::EACH_WORKERS,
+        ArgRow {
+            long_help: help::EACH_PIECE,
+            ..option::PIECE
+        },
+        option::IGNORE_BOM,
+    ],
+};
+
+const COUNT: CommandRow = CommandRow {
+    name: "count",
+    about: help::COUNT,
+    after: help::AFTER_COUNT,
+    args: &[
+        option::CONTAINER,
+        option::ONE_FILE,
+        option::FILE,
+        option::DEPTH,
+        option::EACH_WORKERS,
+        ArgRow {
+            long_help: help::EACH_PIECE,
+            ..option::PIECE
+        },
+        option::IGNORE_BOM,
     ],
 };
 
@@ -192,6 +231,7 @@ const LINES: CommandRow = CommandRow {
         option::QUIET,
         option::PASS,
         option::BAD,
+        option::MAX,
         ArgRow {
             long_help: help::LONG_LIST_OF_LINES,
             ..option::LIST
@@ -283,6 +323,14 @@ fn each_row() -> CommandRow {
     EACH
 }
 
+fn keys_row() -> CommandRow {
+    KEYS
+}
+
+fn count_row() -> CommandRow {
+    COUNT
+}
+
 fn seq_row() -> CommandRow {
     SEQ
 }
@@ -320,6 +368,8 @@ pub(crate) fn row_of(called: Called) -> CommandRow {
         Called::At => at_row(),
         Called::Get => get_row(),
         Called::Each => each_row(),
+        Called::Keys => keys_row(),
+        Called::Count => count_row(),
         Called::Seq => seq_row(),
         Called::Lines => lines_row(),
         Called::Save => save_row(),
@@ -331,13 +381,15 @@ pub(crate) fn row_of(called: Called) -> CommandRow {
 }
 
 /// All commands, in the order of the help.
-pub(crate) const ALL: [Called; 13] = [
+pub(crate) const ALL: [Called; 15] = [
     Called::Check,
     Called::Explain,
     Called::Index,
     Called::At,
     Called::Get,
     Called::Each,
+    Called::Keys,
+    Called::Count,
     Called::Seq,
     Called::Lines,
     Called::Save,

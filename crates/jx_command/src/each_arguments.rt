@@ -1,21 +1,34 @@
-// The words of the subcommand that writes elements.
+// The words of the subcommands that write or count elements.
 ghost use Rattle.std.specs.Prelude.{◌≤◌};
 
 use crate::arguments::{mark_of, piece_of};
 use crate::options::{depth_of, input_of_word, progress_of};
-use crate::order::EachOrder;
+use crate::order::{EachForm, EachOrder};
 use clap::ArgMatches;
 use jx_crew::Workers;
 use jx_run::{NameRule, Settings};
 
-/// What its options ask for. The grammar has a number for each option that the words leave out, so that what stands here
-/// where there is none is never met.
-pub(crate) fn each_order_from<'a>(workers: Workers, options: &ArgMatches<'a>) -> EachOrder<'a>
+/// The form of lines by the options of `each`.
+pub(crate) fn each_form_of(options: &ArgMatches<'_>) -> EachForm {
+    if options.get_flag("names") {
+        EachForm::Members
+    } else {
+        EachForm::Values
+    }
+}
+
+/// The order of such a command by its options. The grammar has a number for each option that the words leave out, so that
+/// what stands here where there is none is never met.
+pub(crate) fn each_order_from<'a>(
+    form: EachForm,
+    workers: Workers,
+    options: &ArgMatches<'a>,
+) -> EachOrder<'a>
     ensures { 1 ≤ result.piece }
 {
     EachOrder {
         pointer: options.get_str("pointer").unwrap_or(""),
-        has_names: options.get_flag("names"),
+        form,
         input: input_of_word(options),
         settings: Settings {
             depth: depth_of(options).unwrap_or_default(),

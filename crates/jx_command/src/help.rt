@@ -1,4 +1,4 @@
-// What the program says of itself. No line is longer than 79 characters, and the manual page has the same words.
+// The help texts of the program. No line is longer than 79 characters, and the manual page has the same words.
 
 pub const VERSION: &str = "0.3.0";
 
@@ -22,6 +22,8 @@ pub const LONG_AFTER: &str = "Examples:
   jx at /users/0/name < dump.json     where this value stands
   jx get /users/0/name < dump.json    its bytes
   jx each /items dump.json            a line for each element of this array
+  jx keys /users dump.json            the names of the members of this object
+  jx count /items dump.json           how many elements this array has
   jx seq log.json-seq                 which elements of a sequence are texts?
   jx lines log.jsonl                  which lines are not JSON texts?
   jx save dump.json > dump.json.jxi   an index of this file, kept beside it
@@ -31,9 +33,12 @@ pub const LONG_AFTER: &str = "Examples:
 Exit status:
   0  the text, every element or line is accepted, every pointer is found
   1  otherwise: standard output says what was refused, and where; of get,
-     each, save and split standard error does
+     each, keys, count, save and split standard error does
   2  no answer: standard error says why; a call for help ends so too
-Of several files, the greatest status of one.";
+Of several files, the greatest status of one.
+
+A message on an input begins 'jx: FILE: ' on standard error; FILE is - for
+standard input. One on a pointer has it next, as 'jx: FILE: POINTER: '.";
 
 pub const CHECK: &str = "Check whether the input is a JSON text";
 
@@ -46,6 +51,10 @@ pub const AT: &str = "Print where JSON Pointers lead in a JSON text";
 pub const GET: &str = "Write the values that JSON Pointers lead to, byte for byte";
 
 pub const EACH: &str = "Write each element of a container on a line of its own";
+
+pub const KEYS: &str = "Write the names of an object, each on a line of its own";
+
+pub const COUNT: &str = "Print how many elements or members a container has";
 
 pub const SEQ: &str = "Report which elements of a JSON text sequence are JSON texts";
 
@@ -137,7 +146,7 @@ share from 5.25 MiB on. One worker reads a text with --unique-names.";
 
 pub const EXPLAIN_WORKERS: &str = "Share the work among N workers, 1 to 64, or auto: one for each
 processor that jx may use, at most 16. The answer is the same for
-every number. They share a text from a MiB on. One worker reads a
+every number. They share a text from 5.25 MiB on. One worker reads a
 text with --unique-names.";
 
 pub const INDEX_WORKERS: &str =
@@ -201,9 +210,9 @@ pub const IGNORE_BOM: &str = "Ignore a byte order mark in front";
 
 pub const LONG_IGNORE_BOM: &str =
     "Ignore a byte order mark (EF BB BF) in front of a text, before all
-white space, in front of all lines, or before the first record
-separator of a sequence. Without this option it is refused. Offsets
-count its bytes.";
+white space. Of JSON Lines it is in front of all lines, and of a
+sequence before the first record separator. Without this option it is
+refused. Offsets count its bytes.";
 
 pub const UNIQUE_NAMES: &str = "Refuse objects that repeat a name";
 
@@ -232,6 +241,12 @@ pub const BAD: &str = "Append the report of --pass to FILE";
 pub const LONG_BAD: &str = "Append the report of --pass to FILE, which is made where there is
 none, and not to standard error. Where a line or its report cannot be
 written, no more is read.";
+
+pub const MAX: &str = "Report at most N refused lines of each FILE";
+
+pub const LONG_MAX: &str = "Report at most N refused lines of each FILE, 1 or more. Once the line
+feed behind the Nth is read and that is reported, jx reads no more of
+FILE and writes no total. One worker reads.";
 
 pub const PROGRESS: &str = "Show progress: auto, always or never";
 
@@ -271,21 +286,21 @@ line, and nothing else.";
 
 pub const FORMAT: &str = "Answer as plain, gnu or json";
 
-pub const LONG_FORMAT: &str = "Answer as plain, which is as below; as gnu, which is a line for each
-file that is refused, FILE:LINE:COLUMN: SENTENCE (byte K); or as
-json, which is an object on a line of its own for each file: name and
-verdict, and where it is refused offset, line, column, sentence and
-pointer, as 'jx explain' prints them. The pointer is null where a
-name on the way has half of a surrogate pair alone. With gnu and json
-the whole of a text that is refused is kept in memory.";
+pub const LONG_FORMAT: &str = "Answer as plain, which is as below, as gnu or as json. With gnu each
+file that is refused has a line, FILE:LINE:COLUMN: SENTENCE (byte K),
+where COLUMN counts the bytes of a line from 1. With json each file
+has an object on a line of its own, with name and verdict. Where it
+is refused, offset, line, column, sentence and pointer follow, as
+'jx explain' prints them. The pointer is null where a name on the way
+has half of a surrogate pair alone. With --unique-names the whole of
+a text that is refused is kept in memory.";
 
 pub const LONG_FORMAT_OF_LINES: &str =
-    "Answer as plain, which is as below; as gnu, which is for each line
-that is no JSON text FILE:N:COLUMN: VERDICT, and no total; or as
-json, which is an object for each, on a line of its own, with name,
-line, column, start, end, offset and verdict, and one after them
-with name, accepted and refused. COLUMN counts the bytes of a line
-from 1.";
+    "Answer as plain, which is as below, as gnu or as json. With gnu each
+line that is no JSON text has FILE:N:COLUMN: VERDICT, and there is no
+total. With json each has an object on a line of its own, with name,
+line, column, start, end, offset and verdict. One after them has
+name, accepted and refused. COLUMN counts the bytes of a line from 1.";
 
 pub const COMPACT: &str = "Leave out white space between tokens";
 
@@ -300,6 +315,31 @@ pub const LONG_BY_LINE: &str = "Read JSON Lines, and write a line for each line:
 text, a tab between, without white space between tokens. It is
 written as soon as the line has ended. Not with --raw or
 --unique-names.";
+
+pub const TABLE: &str = "Write rows of texts, as tsv or csv";
+
+pub const LONG_TABLE: &str = "Write the row of each line as texts, a cell for each pointer. Of a
+string that is the text it stands for, of other values compact JSON.
+With tsv a tab is between, and \\t, \\n, \\r and \\\\ stand for a tab, a
+line feed, a carriage return and a backslash. With csv a comma is
+between, and a line feed ends a row (RFC 4180). There a cell is in
+quotation marks if it is empty or the WORD of --null, or has a
+quotation mark, a comma, a line end or a backslash. Its own quotation
+marks are written twice. A line end in a cell stays, so such a row
+takes several lines.";
+
+pub const HEADER: &str = "Write the pointers as the first row";
+
+pub const LONG_HEADER: &str = "Write the pointers as the first row, as they were given, before a
+line is read.";
+
+pub const NULL: &str = "Write WORD where there is no value, or null";
+
+pub const LONG_NULL: &str = "Write WORD where there is no value, or null. Without this option that
+is \\N with tsv, the cell of no string, and nothing with csv, as COPY
+of PostgreSQL reads them. With csv and one pointer such a row is an
+empty line, which some readers skip. WORD has no tab, comma, line end
+or quotation mark.";
 
 pub const RAW: &str = "Write the text that a string stands for";
 
@@ -316,12 +356,12 @@ a token ~1 stands for a slash and ~0 for a tilde. What is .a.b or
 $.a.b elsewhere is /a/b here, and a FILE follows --file. After the
 argument -- also what begins with a hyphen is taken for a pointer.";
 
-pub const CONTAINER: &str = "Write the elements of what POINTER leads to";
+pub const CONTAINER: &str = "Take the container that POINTER leads to";
 
-pub const LONG_CONTAINER: &str = "Write the elements of what POINTER leads to, a JSON Pointer (RFC
-6901): '' or none for the whole text, or tokens that each follow a
-slash, as /data/items. Of members with the same name the first is
-taken.";
+pub const LONG_CONTAINER: &str =
+    "Take the container that POINTER leads to, a JSON Pointer (RFC 6901):
+'' or none for the whole text, or tokens that each follow a slash, as
+/data/items. Of members with the same name the first is taken.";
 
 pub const NAMES: &str = "Write names too, of the members of an object";
 
@@ -458,15 +498,17 @@ text, or an empty line where it has no value. A value with line ends between
 its tokens takes several lines, unless --compact leaves them out.
 
 What is not written is reported on standard error, after the output:
-  jx: POINTER: ANSWER  the pointer leads nowhere; ANSWER is that of 'jx at',
-                       or with --raw: half a surrogate pair
-  jx: VERDICT          the text is refused, as by 'jx check'; no output
+  jx: FILE: POINTER: ANSWER  the pointer leads nowhere; ANSWER is that of
+                             'jx at', or with --raw: half a surrogate pair
+  jx: FILE: VERDICT          the text is refused, as by 'jx check'; no output
 
 With --lines line i of the output answers line i of the input, and what is not
 written is reported while the input is read:
-  jx: line N: POINTER: ANSWER  as above, in the text of line N
-  jx: line N: VERDICT          line N is not a JSON text, as by 'jx lines';
-                               offsets count from the start of the line
+  jx: FILE: line N: POINTER: ANSWER  as above, in the text of line N, and with
+                                     --format: half a surrogate pair
+  jx: FILE: line N: VERDICT          line N is not a JSON text, as by
+                                     'jx lines'; offsets count from the start
+                                     of the line
 
 Exit status: 0 all written, 1 refused or not all written, 2 no answer.
 
@@ -480,13 +522,14 @@ Examples:
   jx get -r /users/0/name --file dump.json
   jx get -c '' --file dump.json
   tail -f log | jx get --lines /time /level
+  jx get --lines --format csv --header /time /level --file log
   jx get --file dump.json -- \"$pointer\"
   jx get --file dump.json --pointers list
   jx get --index dump.json.jxi --file dump.json /users/0/name";
 
 pub const AFTER_EACH: &str =
     "Output, a line for each element of the array that POINTER leads to, or for
-the value of each member of the object: its tokens without white space
+the value of each member of the object. It has the tokens without white space
 between them, each with its own bytes. So each line is a JSON text. With
 --names a line is {\"name\":NAME,\"value\":VALUE}, for each member of an
 object alone.
@@ -497,11 +540,11 @@ not load a part of a text runs 'jx check' first, or ends a transaction by the
 status. The text is read to its end, and one element is kept in memory.
 
 Reports on standard error, after the output:
-  jx: VERDICT                     the text is refused, as by 'jx check'
-  jx: not a container at token N  POINTER leads to a scalar by N tokens
-  jx: not an object at token N    with --names: to no object
-  jx: name repeated at token N    elements of the first member were written
-  jx: ANSWER                      POINTER leads nowhere, as by 'jx at'
+  jx: FILE: VERDICT          the text is refused, as by 'jx check'
+  jx: FILE: POINTER: ANSWER  the pointer leads nowhere, as by 'jx at', or:
+  not a container at token N    to a scalar, by N tokens
+  not an object at token N      with --names: to no object
+  name repeated at token N      elements of the first member were written
 
 Exit status: 0 all elements are written, 1 refused or no container, 2 no
 answer.
@@ -511,6 +554,37 @@ Examples:
   jx each --names /users dump.json
   jx each '' dump.json | head -n 3
   zstd -dc dump.json.zst | jx each /items";
+
+pub const AFTER_KEYS: &str =
+    "Output, a line for each member of the object that POINTER leads to, in order:
+its name as the string that stands in the text, with its quotation marks and
+escapes. A repeated name comes each time.
+
+A line is written once the comma or the bracket after the member was read,
+also where the text is refused further on. The text is read to its end, and
+one name is kept in memory.
+
+Reports are those of 'jx each --names'.
+
+Exit status: 0 all names are written, 1 refused or no object, 2 no answer.
+
+Examples:
+  jx keys /users dump.json
+  jx keys '' dump.json | sort | uniq -d";
+
+pub const AFTER_COUNT: &str =
+    "Output, a line with how many elements the array has that POINTER leads to, or
+how many members the object has, repeated names too. It is written once the
+whole text was read and accepted, and else nothing is. One element is kept in
+memory.
+
+Reports are those of 'jx each'; after one of them no number is written.
+
+Exit status: 0 the number is written, 1 a report was made, 2 no answer.
+
+Examples:
+  jx count /items dump.json
+  zstd -dc dump.json.zst | jx count";
 
 pub const AFTER_SEQ: &str = "Output, a line for each element, its span and then:
   accepted            it is a JSON text
@@ -566,7 +640,7 @@ not written to a terminal. The text is read once, and not kept; its index is,
 with --names its tables, and with --unique-names the names of open objects.
 
 Reports on standard error:
-  jx: VERDICT  the text is refused, as by 'jx check'; no output
+  jx: FILE: VERDICT  the text is refused, as by 'jx check'; no output
 
 Exit status: 0 the index is written, 1 refused, 2 no answer.
 
@@ -583,8 +657,8 @@ one after the last child. With brackets of the container's kind around them
 the bytes of a part are a JSON text.
 
 Reports on standard error, with no output:
-  jx: not a container at token K  POINTER leads to a scalar by K tokens
-  jx: ANSWER                      POINTER leads nowhere, as by 'jx at'
+  jx: FILE: POINTER: ANSWER  the pointer leads nowhere, as by 'jx at', or:
+  not a container at token K    to a scalar, by K tokens
 
 The index is kept in memory, and of the text a chunk at a time. There is no
 output where the bytes of a chunk that is read have changed, where the text has

@@ -1,10 +1,10 @@
-// What the words name that is read.
+// The inputs that the words name.
 ghost use Rattle.std.specs.Prelude.{◌≡◌, count_by, map, nat_lt, IfOk};
 ghost use Rattle.jx_command.specs.Inputs.{is_dash, AreInputsOf, AreNamedInputsOf, IsInputOf};
 
 use std::alloc::AllocError;
 
-/// What one word names.
+/// An input that one word names.
 #[derive(Clone, Copy, Debug, PartialEq, Eq)]
 pub enum Input<'a> {
     /// Standard input.
@@ -13,7 +13,7 @@ pub enum Input<'a> {
     File(&'a str),
 }
 
-/// What is read.
+/// The inputs that are read.
 #[derive(Debug, PartialEq, Drop)]
 pub enum Inputs<'a> {
     /// One input, whose answer stands alone.
@@ -23,7 +23,7 @@ pub enum Inputs<'a> {
     Several(Vec<&'a str>),
 }
 
-/// What a word names: standard input where it is `-`, and else the file of this name, also where it is empty.
+/// The input that a word names: standard input where it is `-`, and else the file of this name, also where it is empty.
 pub fn input_of<'a>(word: &'a str) -> Input<'a>
     ensures { IsInputOf word.entry.now result }
 {
@@ -34,7 +34,7 @@ pub fn input_of<'a>(word: &'a str) -> Input<'a>
     }
 }
 
-/// What words name: standard input where there is none, what a word names that stands alone, and else all of them.
+/// The inputs that words name: standard input where there is none, the input of a word that stands alone, and else all of them.
 pub fn inputs_of<'a>(words: Vec<&'a str>) -> Inputs<'a>
     ensures { AreInputsOf (map (λ word. word.now) words.entry.items) result }
 {

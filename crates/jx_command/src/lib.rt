@@ -26,7 +26,7 @@ pub use arg_fault::ArgFault;
 pub use arguments::command_of;
 pub use inputs::{Input, Inputs, input_of, inputs_of, named_inputs_of, reads_standard_twice};
 pub use order::{
-    ByLine, EachOrder, LinesOrder, LiveOrder, Order, PartsOrder, PartsStep, PassOrder, SaveOrder,
-    SplitOrder, ValuesOrder,
+    ByLine, EachForm, EachOrder, LinesOrder, LiveOrder, Order, PartsOrder, PartsStep, PassOrder,
+    SaveOrder, SplitOrder, TableForm, TableOrder, ValuesOrder,
 };
 pub use request::{Color, Request, ShowProgress, TellAccepted, Told};

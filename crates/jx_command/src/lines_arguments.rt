@@ -21,8 +21,14 @@ fn pass_from<'a>(options: &ArgMatches<'a>) -> Option<PassOrder<'a>> {
     }
 }
 
-/// What its options ask for. The grammar has a number for each option that the words leave out, so that what stands here
-/// where there is none is never met.
+/// The number of refused lines to report by the options, at most, if they say.
+fn most_of(options: &ArgMatches<'_>) -> Option<usize> {
+    let most: u64 = options.get_one::<u64>("max")?;
+    Some(most as usize)
+}
+
+/// The order of its options. The grammar has a number for each option that the words leave out, so that what stands
+/// here where there is none is never met.
 pub(crate) fn lines_order_from<'a>(
     alloc: Global,
     workers: Workers,
@@ -43,5 +49,6 @@ pub(crate) fn lines_order_from<'a>(
         is_quiet: options.get_flag("quiet") || options.get_flag("list"),
         told: format_of(options),
         pass: pass_from(options),
+        most: most_of(options),
     })
 }

@@ -12,7 +12,7 @@ pub(crate) fn is_live(options: &ArgMatches<'_>) -> bool {
     options.get_flag("live")
 }
 
-/// What its options ask for. The grammar has a depth where the words leave it out, and takes no rule on names.
+/// The order of its options. The grammar has a depth where the words leave it out, and takes no rule on names.
 pub(crate) fn live_order_from<'a>(
     alloc: Global,
     options: &ArgMatches<'a>,

@@ -10,6 +10,9 @@ const WHEN: &[&str] = &["auto", "always", "never"];
 /// How a check answers.
 const FORMATS: &[&str] = &["plain", "gnu", "json"];
 
+/// How the texts of a row are separated and escaped.
+const TABLE_FORMS: &[&str] = &["tsv", "csv"];
+
 /// Where a part begins at most, which is the greatest offset of a file. So bytes of a part have offsets below 2^64.
 const GREATEST_FROM: u64 = 9_223_372_036_854_775_807;
 
@@ -34,7 +37,7 @@ pub(crate) const TEXT_FILE: ArgRow = ArgRow {
     ..FILE
 };
 
-/// What is read, as words.
+/// The inputs that are read, as words.
 pub(crate) const FILES: ArgRow = ArgRow {
     id: "files",
     takes: Takes::Words("FILE"),
@@ -44,7 +47,7 @@ pub(crate) const FILES: ArgRow = ArgRow {
     ..FLAG
 };
 
-/// What is read, as one word.
+/// The input that is read, as one word.
 pub(crate) const ONE_FILE: ArgRow = ArgRow {
     takes: Takes::Word("FILE"),
     help: help::ONE_FILE,
@@ -250,10 +253,51 @@ pub(crate) const BAD: ArgRow = ArgRow {
     ..FLAG
 };
 
+/// How many refused lines are reported of an input, at most.
+pub(crate) const MAX: ArgRow = ArgRow {
+    id: "max",
+    long: Some("max"),
+    takes: Takes::Parsed("N", ValueParser::Unsigned(1, u64::MAX)),
+    help: help::MAX,
+    long_help: help::LONG_MAX,
+    conflicts: &["quiet", "list", "pass"],
+    ..FLAG
+};
+
 /// The same where lines are answered beside whole texts.
 pub(crate) const SKIP_BLANK_BY_LINE: ArgRow = ArgRow {
     needs: &["by_line"],
     ..SKIP_BLANK
+};
+
+/// Whether the values of a line are texts in the cells of a row.
+pub(crate) const TABLE: ArgRow = ArgRow {
+    id: "format",
+    long: Some("format"),
+    takes: Takes::Parsed("FORMAT", ValueParser::Names(TABLE_FORMS)),
+    help: help::TABLE,
+    long_help: help::LONG_TABLE,
+    needs: &["by_line"],
+    ..FLAG
+};
+
+pub(crate) const HEADER: ArgRow = ArgRow {
+    id: "header",
+    long: Some("header"),
+    help: help::HEADER,
+    long_help: help::LONG_HEADER,
+    needs: &["format"],
+    ..FLAG
+};
+
+pub(crate) const NULL: ArgRow = ArgRow {
+    id: "null",
+    long: Some("null"),
+    takes: Takes::AnyWord("WORD"),
+    help: help::NULL,
+    long_help: help::LONG_NULL,
+    needs: &["format"],
+    ..FLAG
 };
 
 pub(crate) const POINTERS: ArgRow = ArgRow {

@@ -9,7 +9,7 @@ pub(crate) fn depth_of(options: &ArgMatches<'_>) -> Option<Depth> {
     Depth::new(u32::from(options.get_one::<u16>("depth")?))
 }
 
-/// What is read: the file of an option, or standard input.
+/// The input: the file of an option, or standard input.
 pub(crate) fn input_from<'a>(options: &ArgMatches<'a>) -> Input<'a> {
     match options.get_str("file") {
         Some(file) => Input::File(file),
@@ -17,7 +17,7 @@ pub(crate) fn input_from<'a>(options: &ArgMatches<'a>) -> Input<'a> {
     }
 }
 
-/// What is read: the file of an option, what the word for it names, or standard input.
+/// The input: the file of an option, the input that a word names, or standard input.
 pub(crate) fn input_of_word<'a>(options: &ArgMatches<'a>) -> Input<'a> {
     match options.get_str("files") {
         Some(word) => input_of(word),

@@ -1,4 +1,4 @@
-// What arguments ask for: a report, work on the parts of a text, values, elements, lines, a sequence as it
+// Orders that arguments give: a report, work on the parts of a text, values, elements, lines, a sequence as it
 // comes, an index that is saved, or the borders of a container's parts.
 use crate::inputs::{Input, Inputs};
 use crate::request::{Request, ShowProgress, Told};
@@ -8,7 +8,7 @@ use jx_lex::Depth;
 use jx_run::Settings;
 use jx_task::ValuesTask;
 
-/// What arguments ask for.
+/// An order that arguments give.
 #[derive(Debug, Drop)]
 pub enum Order<'a> {
     /// A report on what is read.
@@ -32,11 +32,11 @@ pub enum Order<'a> {
 /// Work on the parts of a text.
 #[derive(Clone, Copy, Debug, PartialEq, Eq)]
 pub struct PartsOrder<'a> {
-    /// What is read.
+    /// The input that is read.
     pub input: Input<'a>,
     /// How deep the whole text may be.
     pub depth: Depth,
-    /// What is done with it.
+    /// The step that is done with it.
     pub step: PartsStep,
 }
 
@@ -55,7 +55,7 @@ pub enum PartsStep {
 #[derive(Debug, Drop)]
 pub struct ValuesOrder<'a> {
     pub task: ValuesTask,
-    /// What is read.
+    /// The input that is read.
     pub input: Input<'a>,
     /// FILE whose lines are looked up after the pointers among the words.
     pub pointers: Option<&'a str>,
@@ -66,24 +66,58 @@ pub struct ValuesOrder<'a> {
     /// Whether a string is written as the text that it stands for.
     pub is_raw: bool,
     /// How the lines of the input are answered one by one. None where the input is one text.
-    pub by_line: Option<ByLine>,
+    pub by_line: Option<ByLine<'a>>,
 }
 
 /// How the lines of an input are answered one by one.
 #[derive(Clone, Copy, Debug, PartialEq, Eq)]
-pub struct ByLine {
+pub struct ByLine<'a> {
     /// Whether empty lines are skipped in silence.
     pub skips_blanks: bool,
+    /// The table whose rows are written. None where values stay JSON.
+    pub table: Option<TableOrder<'a>>,
 }
 
-/// The elements of a container in a text, which are written while it is read.
+/// A table with a row for each line, and a cell for each pointer.
+#[derive(Clone, Copy, Debug, PartialEq, Eq)]
+pub struct TableOrder<'a> {
+    pub form: TableForm,
+    /// The text that is written where there is no value, or `null`.
+    pub none: &'a str,
+    /// Whether the first line is of pointers.
+    pub has_header: bool,
+}
+
+/// How the texts of a row are separated and escaped.
+#[derive(Clone, Copy, Debug, PartialEq, Eq)]
+pub enum TableForm {
+    /// By tabs.
+    Tsv,
+    /// By commas (RFC 4180).
+    Csv,
+}
+
+/// The form of the lines of a container's elements.
+#[derive(Clone, Copy, Debug, PartialEq, Eq)]
+pub enum EachForm {
+    /// The value of each element or member.
+    Values,
+    /// The name and the value of each member.
+    Members,
+    /// The name of each member.
+    Names,
+    /// How many elements or members there are.
+    Count,
+}
+
+/// The elements of a container in a text, which are written or counted while it is read.
 #[derive(Clone, Copy, Debug, PartialEq, Eq)]
 pub struct EachOrder<'a> {
-    /// What leads to the container, as the words have it.
+    /// The pointer that leads to the container, as the words have it.
     pub pointer: &'a str,
-    /// Whether members are written with their names.
-    pub has_names: bool,
-    /// What is read.
+    /// The form of the lines of its elements.
+    pub form: EachForm,
+    /// The input that is read.
     pub input: Input<'a>,
     /// How it is read.
     pub settings: Settings,
@@ -98,7 +132,7 @@ pub struct EachOrder<'a> {
 /// Lines, each of which is to be a text.
 #[derive(Debug, Drop)]
 pub struct LinesOrder<'a> {
-    /// What is read.
+    /// The inputs that are read.
     pub inputs: Inputs<'a>,
     /// How each line is read.
     pub settings: Settings,
@@ -114,6 +148,8 @@ pub struct LinesOrder<'a> {
     pub told: Told,
     /// How the accepted lines pass through. None where the report alone is written.
     pub pass: Option<PassOrder<'a>>,
+    /// How many refused lines are reported of an input, at most. None where all are.
+    pub most: Option<usize>,
 }
 
 /// Lines that pass through, beside the report on the others.
@@ -126,7 +162,7 @@ pub struct PassOrder<'a> {
 /// Elements of text sequences, which are reported while they are read.
 #[derive(Debug, Drop)]
 pub struct LiveOrder<'a> {
-    /// What is read.
+    /// The inputs that are read.
     pub inputs: Inputs<'a>,
     /// How each element is read.
     pub settings: Settings,
@@ -137,7 +173,7 @@ pub struct LiveOrder<'a> {
 /// The index of a text, whose bytes are written.
 #[derive(Clone, Copy, Debug, PartialEq, Eq)]
 pub struct SaveOrder<'a> {
-    /// What is read.
+    /// The input that is read.
     pub input: Input<'a>,
     /// How it is read.
     pub settings: Settings,
@@ -152,7 +188,7 @@ pub struct SaveOrder<'a> {
 /// The borders of the parts of a container, by the index of its text.
 #[derive(Clone, Copy, Debug, PartialEq, Eq)]
 pub struct SplitOrder<'a> {
-    /// What leads to the container, as the words have it.
+    /// The pointer that leads to the container, as the words have it.
     pub pointer: &'a str,
     /// FILE with the index.
     pub index: &'a str,

@@ -9,7 +9,7 @@ fn offset_of(options: &ArgMatches<'_>, name: &str) -> Option<usize> {
     Some(offset as usize)
 }
 
-/// What is read, and how deep the whole text may be, for a step.
+/// The order for a step: the input, and how deep the whole text may be.
 fn parts_order<'a>(options: &ArgMatches<'a>, step: PartsStep) -> PartsOrder<'a> {
     PartsOrder {
         input: input_from(options),
@@ -18,18 +18,18 @@ fn parts_order<'a>(options: &ArgMatches<'a>, step: PartsStep) -> PartsOrder<'a> 
     }
 }
 
-/// What the options of `part` ask for.
+/// The order of the options of `part`.
 pub(crate) fn part_order_from<'a>(options: &ArgMatches<'a>) -> PartsOrder<'a> {
     let from = offset_of(options, "from");
     parts_order(options, PartsStep::Part { from })
 }
 
-/// What the options of `join` ask for.
+/// The order of the options of `join`.
 pub(crate) fn join_order_from<'a>(options: &ArgMatches<'a>) -> PartsOrder<'a> {
     parts_order(options, PartsStep::Join)
 }
 
-/// What the options of `whole` ask for. The grammar has both offsets.
+/// The order of the options of `whole`. The grammar has both offsets.
 pub(crate) fn whole_order_from<'a>(options: &ArgMatches<'a>) -> PartsOrder<'a> {
     let step = PartsStep::Whole {
         from: offset_of(options, "from").unwrap_or(0),

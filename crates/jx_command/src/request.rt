@@ -1,12 +1,12 @@
-// What arguments ask for.
+// Reports that arguments ask for.
 use crate::inputs::Inputs;
 use jx_task::Command;
 
-/// What arguments ask for.
+/// A report that arguments ask for.
 #[derive(Debug, Drop)]
 pub struct Request<'a> {
     pub command: Command,
-    /// What is read.
+    /// The inputs that are read.
     pub inputs: Inputs<'a>,
     /// FILE whose lines are looked up after the pointers among the words.
     pub pointers: Option<&'a str>,

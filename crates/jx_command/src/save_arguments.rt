@@ -12,7 +12,7 @@ fn chunk_of(options: &ArgMatches<'_>) -> Option<ChunkSize> {
     ChunkSize::new(bytes as usize)
 }
 
-/// What its options ask for. The grammar has a number of bytes where the words leave it out.
+/// The order of its options. The grammar has a number of bytes where the words leave it out.
 pub(crate) fn save_order_from<'a>(options: &ArgMatches<'a>) -> Result<SaveOrder<'a>, ArgFault> {
     let Some(chunk) = chunk_of(options) else {
         return Err(ArgFault::Chunk);

@@ -18,7 +18,7 @@ fn parts_of(options: &ArgMatches<'_>) -> Option<usize>
     }
 }
 
-/// What its options ask for. The grammar has each of them but the pointer, so that what stands here where there is none is
+/// The order of its options. The grammar has each of them but the pointer, so that what stands here where there is none is
 /// never met.
 pub(crate) fn split_order_from<'a>(options: &ArgMatches<'a>) -> SplitOrder<'a>
     ensures some { 1 ≤ result.parts }

@@ -35,7 +35,7 @@ pub fn is_kept(place: Place, byte: u8) -> bool
     }
 }
 
-/// Where the byte after a byte stands.
+/// The place of the byte after a byte.
 pub fn next(place: Place, byte: u8) -> Place
     ensures { result ≡ next place byte }
 {

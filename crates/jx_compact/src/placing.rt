@@ -12,7 +12,7 @@ fn kept_len(place: Place, byte: u8) -> usize
     if is_kept(place, byte) { 1 } else { 0 }
 }
 
-/// How many bytes the compact form of a value has: as many as the value, or fewer.
+/// The number of bytes of the compact form of a value: as many as the value has, or fewer.
 pub fn compact_len(bytes: &[u8]) -> usize
     ensures { result ≡ length (compact bytes.now) }
 {

@@ -10,7 +10,7 @@ pub struct Crew<'c, R, G> {
     pub gate: &'c G,
 }
 
-// What is lent need not be what may be freed.
+// A thing that is lent need not be one that may be freed.
 impl<'c, R, G> Drop for Crew<'c, R, G> {
     fn drop(self) {
         let Crew {

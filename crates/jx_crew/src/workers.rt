@@ -33,7 +33,7 @@ impl Workers {
         }
     }
 
-    /// How many they are.
+    /// The number of workers.
     pub fn count(self) -> u8
         ensures value { result ≡ self }
         ensures some { 0 < result }

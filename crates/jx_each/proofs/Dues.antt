@@ -12,8 +12,8 @@ use Rattle.jx_run.specs.Text.{Document}
 use Rattle.jx_run.specs.Tree.{Tree}
 use Rattle.jx_each.specs.declared.content.LineContent.{LineContent}
 use Rattle.jx_each.specs.declared.stand.Stage.{Stage}
-use Rattle.jx_each.specs.declared.stand.Stage.TheVariants.{Ahead, Elements, Members, Array, Object, Name, Pair, Over}
-use Rattle.jx_each.specs.Machine.{Aim, Made, aimed, begun, line_of, lines_next, lines_with, run, step}
+use Rattle.jx_each.specs.declared.stand.Stage.TheVariants.{Ahead, Elements, Members, Array, Object, Name, Pair, Names, Empties, Over}
+use Rattle.jx_each.specs.Machine.{Aim, Made, aimed, begun, empty_line_of, line_of, lines_next, lines_with, run, step}
 use Rattle.jx_each.specs.Turns.{turn_at}
 use Rattle.jx_each.specs.declared.sign.Turn.{Turn}
 use Rattle.jx_each.specs.declared.sign.Turn.TheVariants as turns
@@ -179,6 +179,8 @@ more_with : (stage : Stage) (lines part : List ℕ) → (rest : List ℕ) × (li
 more_with Array lines part = (line_of part, refl)
 more_with Object lines part = (line_of part, refl)
 more_with Pair lines part = (part ++ codes "}\n", refl)
+more_with Names lines part = (line_of part, refl)
+more_with Empties lines part = (empty_line_of part, refl)
 more_with Name lines part = ([], sym (append-nil lines))
 more_with (Members level) lines part = ([], sym (append-nil lines))
 more_with (Ahead level) lines part = ([], sym (append-nil lines))

@@ -12,7 +12,7 @@ use Rattle.jx_each.specs.declared.sign.Turn.TheVariants.{Stay}
 use Rattle.jx_each.specs.declared.sign.Turn.TheVariants as turns
 use Rattle.jx_each.specs.declared.stand.Stage.{Stage}
 use Rattle.jx_each.specs.Turns.{turn_at, height_next, height_behind}
-use Rattle.jx_each.specs.declared.stand.Stage.TheVariants.{Ahead, Elements, Members, Array, Object, Name, Pair, Over}
+use Rattle.jx_each.specs.declared.stand.Stage.TheVariants.{Ahead, Elements, Members, Array, Object, Name, Pair, Names, Empties, Over}
 use Rattle.jx_each.specs.Machine.{Aim, Made, step, run, stage_next, stand_by, lines_next, part_next}
 use Rattle.jx_each.specs.Due.{Element, behind, element_line, lines_before}
 use Rattle.jx_each.proofs.Bytes.{StaysIn}
@@ -117,6 +117,8 @@ stays_stage aim Array name = refl
 stays_stage aim Object name = refl
 stays_stage aim Name name = refl
 stays_stage aim Pair name = refl
+stays_stage aim Names name = refl
+stays_stage aim Empties name = refl
 stays_stage aim Over name = refl
 
 abbrev pub kept_by : Bool → Place → ℕ → List ℕ

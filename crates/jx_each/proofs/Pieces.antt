@@ -90,7 +90,7 @@ number_solid (number {int = i} {frac = f} {exp = x} minus n c d) = record { firs
 string_solid : {w us : List ℕ} → IsString w us → Solid w
 string_solid (quoted {w = w} cs) = record { first = 0x22; rest = w ++ (0x22 ∷ []); is = refl; no_blank = refl }
 
-token_solid : (k : Kind) (w : List ℕ) → IsToken k w → Solid w
+pub token_solid : (k : Kind) (w : List ℕ) → IsToken k w → Solid w
 token_solid kind.String w h = string_solid h.1
 token_solid kind.Number w h = number_solid h
 token_solid kind.True w h = record { first = 0x74; rest = codes "rue"; is = h; no_blank = refl }

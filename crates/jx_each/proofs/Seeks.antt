@@ -15,15 +15,15 @@ use Rattle.jx_run.specs.Tree.{Tree, node, Children, no_children, span}
 use Rattle.jx_run.specs.Grammar.{Blanks, Scalar, Value, leaf, empty_array, array, empty_object, object, Items, last_item, item, Members as MembersIn, last_member, member}
 use Rattle.jx_run.specs.Text.{Document, document}
 use Rattle.jx_each.specs.declared.content.LineContent.{LineContent}
-use Rattle.jx_each.specs.declared.content.LineContent.TheVariants.{Alone, Named}
+use Rattle.jx_each.specs.declared.content.LineContent.TheVariants.{Alone, Named, NameAlone, Empty}
 use Rattle.jx_each.specs.declared.stand.Stage.{Stage}
-use Rattle.jx_each.specs.declared.stand.Stage.TheVariants.{Ahead, Elements, Members, Array, Object, Name, Over}
+use Rattle.jx_each.specs.declared.stand.Stage.TheVariants.{Ahead, Elements, Members, Array, Object, Name, Names, Empties, Over}
 use Rattle.jx_each.specs.Machine.{Aim, Made, aimed, at_element, at_member, at_value, begins_part, begins_value, height_in, is_spelt, part_at, step}
-use Rattle.jx_each.specs.Due.{Element, elements, elements_at, elements_of, first_by, first_child, is_number, reached, then_to}
+use Rattle.jx_each.specs.Due.{Element, elements, elements_at, elements_of, first_by, first_child, is_number, members_in, reached, then_to}
 use Rattle.jx_each.proofs.Pieces.{blanks_gap, scalar_piece, value_piece}
 use Rattle.jx_each.proofs.Gives.{Gives, gives_end, gives_over, gives_step, made, over_gap, over_name, over_piece}
 use Rattle.jx_each.proofs.Stays.{token_stays}
-use Rattle.jx_each.proofs.Texts.{items_give, left_byte, left_piece, members_give, name_piece, pairs_give, stretch_is}
+use Rattle.jx_each.proofs.Texts.{empty_items_give, empty_members_give, items_give, left_byte, left_piece, members_give, name_piece, names_give, pairs_give, stretch_is}
 
 -- ---- where tokens end and go on
 
@@ -182,35 +182,48 @@ named content text path level more tree {j = j} {t1 = t1} bs g =
 
 -- ---- in the container
 
+no_members : (k : Kind) → members_in k no_children ≡ []
+no_members kind.Object = refl
+no_members kind.Array = refl
+no_members kind.String = refl
+no_members kind.Number = refl
+no_members kind.True = refl
+no_members kind.False = refl
+no_members kind.Null = refl
+
 no_elements : (content : LineContent) (k : Kind) (s : Span) → elements content (node k s no_children) ≡ []
 no_elements Alone k s = refl
-no_elements Named kind.Object s = refl
-no_elements Named kind.Array s = refl
-no_elements Named kind.String s = refl
-no_elements Named kind.Number s = refl
-no_elements Named kind.True s = refl
-no_elements Named kind.False s = refl
-no_elements Named kind.Null s = refl
+no_elements Named k s = no_members k
+no_elements NameAlone k s = no_members k
+no_elements Empty k s = refl
 
 in_empty_array : (content : LineContent) (text : List ℕ) (path : List (List ℕ)) (s : Span) {i j : ℕ} {t u : List ℕ} → Blanks i t j (0x5d ∷ u)
     → Gives text (aimed content path) (element_made content None 0 0) i t (elements content (node kind.Array s no_children)) Over
 in_empty_array Alone text path s bs = shut_gives text (aimed Alone path) Array true [] 0x5d refl bs
 in_empty_array Named text path s {i = i} {t = t} bs = gives_over text (aimed Named path) 1 false [] [] i t
+in_empty_array NameAlone text path s {i = i} {t = t} bs = gives_over text (aimed NameAlone path) 1 false [] [] i t
+in_empty_array Empty text path s bs = shut_gives text (aimed Empty path) Empties true [] 0x5d refl bs
 
 in_an_array : (content : LineContent) (text : List ℕ) (path : List (List ℕ)) (s : Span) {i j : ℕ} {t u : List ℕ} {c : Children} → drop i text ≡ t → Items i t j (0x5d ∷ u) c
     → Gives text (aimed content path) (element_made content None 0 0) i t (elements content (node kind.Array s c)) Over
 in_an_array Alone text path s h xs = items_give text path [] h xs
 in_an_array Named text path s {i = i} {t = t} h xs = gives_over text (aimed Named path) 1 false [] [] i t
+in_an_array NameAlone text path s {i = i} {t = t} h xs = gives_over text (aimed NameAlone path) 1 false [] [] i t
+in_an_array Empty text path s h xs = empty_items_give text path [] h xs
 
 in_empty_object : (content : LineContent) (text : List ℕ) (path : List (List ℕ)) (s : Span) {i j : ℕ} {t u : List ℕ} → Blanks i t j (0x7d ∷ u)
     → Gives text (aimed content path) (member_made content None 0) i t (elements content (node kind.Object s no_children)) Over
 in_empty_object Alone text path s bs = shut_gives text (aimed Alone path) Object false [] 0x7d refl bs
 in_empty_object Named text path s bs = shut_gives text (aimed Named path) Name true (part_at Name) 0x7d refl bs
+in_empty_object NameAlone text path s bs = shut_gives text (aimed NameAlone path) Names true [] 0x7d refl bs
+in_empty_object Empty text path s bs = shut_gives text (aimed Empty path) Empties true [] 0x7d refl bs
 
 in_an_object : (content : LineContent) (text : List ℕ) (path : List (List ℕ)) (s : Span) {i j : ℕ} {t u : List ℕ} {c : Children} → drop i text ≡ t → MembersIn i t j (0x7d ∷ u) c
     → Gives text (aimed content path) (member_made content None 0) i t (elements content (node kind.Object s c)) Over
 in_an_object Alone text path s h xs = members_give text path [] h xs
 in_an_object Named text path s h xs = pairs_give text path [] h xs
+in_an_object NameAlone text path s h xs = names_give text path [] h xs
+in_an_object Empty text path s h xs = empty_members_give text path [] h xs
 
 mutual
   -- a value to which so many tokens lead

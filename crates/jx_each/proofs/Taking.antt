@@ -8,7 +8,7 @@ use Rattle.jx_run.specs.Reader.{HasRead, ReaderValue}
 use Rattle.jx_run.specs.Settings.{IsDocumentBy, IsLongestBeginningBy, JudgedBy}
 use Rattle.jx_run.specs.Tree.{Tree, node}
 use Rattle.jx_lex.specs.declared.kind.Kind.TheVariants as kind
-use Rattle.jx_each.specs.declared.stand.Stage.TheVariants.{Ahead, Elements, Members, Array, Object, Name, Pair, Over}
+use Rattle.jx_each.specs.declared.stand.Stage.TheVariants.{Ahead, Elements, Members, Array, Object, Name, Pair, Names, Empties, Over}
 use Rattle.jx_each.proofs.Seeks.{stage_by}
 use Rattle.jx_each.specs.declared.content.LineContent.{LineContent}
 use Rattle.jx_each.specs.declared.stand.Stage.{Stage}
@@ -18,7 +18,7 @@ use Rattle.jx_each.specs.declared.stand.LineStand.{LineStand}
 use Rattle.jx_each.specs.Due.{IsDueBy, is_container}
 use Rattle.jx_index.specs.Pointers.{tokens}
 use Rattle.jx_each.specs.Each.{EachValue, HasTakenBy}
-use Rattle.jx_each.specs.Machine.{Aim, Made, aimed, begun, line_of, lines_next, lines_with, run, step}
+use Rattle.jx_each.specs.Machine.{Aim, Made, aimed, begun, empty_line_of, line_of, lines_next, lines_with, run, step}
 use Rattle.jx_each.specs.Turns.{turn_at}
 use Rattle.jx_each.specs.inside.Fronts.{has_begun, sound, sound_part}
 use Rattle.jx_each.proofs.Dues.{is_due, longest_is_one, run_append, sound_goes_on, sound_is_longest, text_gives, whole_begins}
@@ -32,6 +32,8 @@ given_with : (stage : Stage) (g lines part : List ℕ) → lines_with stage (g +
 given_with Array g lines part = append_assoc g lines (line_of part)
 given_with Object g lines part = append_assoc g lines (line_of part)
 given_with Pair g lines part = append_assoc g lines (part ++ codes "}\n")
+given_with Names g lines part = append_assoc g lines (line_of part)
+given_with Empties g lines part = append_assoc g lines (empty_line_of part)
 given_with Name g lines part = refl
 given_with (Members level) g lines part = refl
 given_with (Ahead level) g lines part = refl

@@ -13,7 +13,7 @@ use Rattle.jx_index.specs.ArrayTokens.{is_index, value_after}
 use Rattle.jx_index.specs.Names.{is_name}
 use Rattle.jx_index.specs.Pointers.{tokens}
 use Rattle.jx_each.specs.declared.content.LineContent.{LineContent}
-use Rattle.jx_each.specs.declared.content.LineContent.TheVariants.{Alone, Named}
+use Rattle.jx_each.specs.declared.content.LineContent.TheVariants.{Alone, Named, NameAlone, Empty}
 
 -- ---- what a pointer leads to, by the first member of each name (RFC 6901, section 4)
 
@@ -66,10 +66,13 @@ members_in kind.True below = []
 members_in kind.False below = []
 members_in kind.Null below = []
 
--- what has a line: the elements of an array or the members of an object, or where names are written the latter alone
+-- the elements that have a line: those of an array or the members of an object, or where names are written the latter
+-- alone
 abbrev pub elements : LineContent → Tree → List Element
 elements Alone (node kind span below) = all_in below
 elements Named (node kind span below) = members_in kind below
+elements NameAlone (node kind span below) = members_in kind below
+elements Empty (node kind span below) = all_in below
 
 -- those of the value that tokens lead to, if there is one
 abbrev pub elements_of : LineContent → Option Tree → List Element
@@ -100,10 +103,12 @@ abbrev pub name_of : List ℕ → Option Span → List ℕ
 name_of text None = []
 name_of text (Some span) = slice_range text span.start span.end
 
--- its value alone, or a JSON text of its name and its value; and a line feed
+-- its value alone, a JSON text of its name and its value, its name alone, or no byte; and a line feed
 abbrev pub element_line : LineContent → List ℕ → Element → List ℕ
 element_line Alone text element = value_of text element.tree ++ 0x0a ∷ []
 element_line Named text element = codes "{\"name\":" ++ name_of text element.name ++ codes ",\"value\":" ++ value_of text element.tree ++ codes "}\n"
+element_line NameAlone text element = name_of text element.name ++ 0x0a ∷ []
+element_line Empty text element = 0x0a ∷ []
 
 -- the offset of the first byte that is no white space, of those from an offset on
 abbrev pub past_blanks : ℕ → List ℕ → ℕ
@@ -124,7 +129,7 @@ lines_before content text k elements = flat_map (element_line content text) (fil
 abbrev pub all_lines_by : LineContent → List ℕ → List ℕ → Tree → List ℕ
 all_lines_by content text pointer tree = flat_map (element_line content text) (elements_at content text (tokens pointer) tree)
 
--- what is due of an input, by a pointer to the container
+-- the lines that are due of an input, by a pointer to the container
 pub record IsDueBy (content : LineContent) (settings : Settings) (pointer input output : List ℕ) : Type 0 where
   -- its first fault, if it has one, stands here
   pub k : ℕ

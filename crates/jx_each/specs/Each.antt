@@ -13,7 +13,7 @@ pub record EachValue : Type 0 where
   pub reader : ReaderValue
   -- the units of the pointer's tokens
   pub path : List (List ℕ)
-  -- what a line has
+  -- the content of each line
   pub content : LineContent
   -- where the byte after them stands; none when out of memory
   pub stand : Option LineStand

@@ -7,11 +7,11 @@ use Rattle.jx_compact.specs.Compact.{kept, next}
 use Rattle.jx_index.specs.declared.units.Spelling.TheVariants.{InText}
 use Rattle.jx_index.specs.Units.{between_marks, chars_units}
 use Rattle.jx_each.specs.declared.content.LineContent.{LineContent}
-use Rattle.jx_each.specs.declared.content.LineContent.TheVariants.{Alone, Named}
+use Rattle.jx_each.specs.declared.content.LineContent.TheVariants.{Alone, Named, NameAlone, Empty}
 use Rattle.jx_each.specs.declared.sign.Turn.{Turn}
 use Rattle.jx_each.specs.declared.sign.Turn.TheVariants.{EnterArray, EnterObject, Next, Value, Leave, Past, Stay}
 use Rattle.jx_each.specs.declared.stand.Stage.{Stage}
-use Rattle.jx_each.specs.declared.stand.Stage.TheVariants.{Ahead, Elements, Members, Array, Object, Name, Pair, Over}
+use Rattle.jx_each.specs.declared.stand.Stage.TheVariants.{Ahead, Elements, Members, Array, Object, Name, Pair, Names, Empties, Over}
 use Rattle.jx_each.specs.declared.stand.LineStand.{LineStand}
 use Rattle.jx_each.specs.Due.{is_number}
 use Rattle.jx_each.specs.Turns.{turn_at, height_next}
@@ -44,10 +44,14 @@ is_spelt string token = is_eq (slice_cmp nat_cmp (chars_units InText 0 (between_
 abbrev pub in_array : LineContent → Stage
 in_array Alone = Array
 in_array Named = Over
+in_array NameAlone = Over
+in_array Empty = Empties
 
 abbrev pub in_object : LineContent → Stage
 in_object Alone = Object
 in_object Named = Name
+in_object NameAlone = Names
+in_object Empty = Empties
 
 -- in front of an element, by the token that leads on, if there is one
 abbrev pub at_element : LineContent → Option (List ℕ) → ℕ → ℕ → Stage
@@ -129,6 +133,8 @@ stage_next aim Array name turn = open_next Array turn
 stage_next aim Object name turn = open_next Object turn
 stage_next aim Name name turn = name_next turn
 stage_next aim Pair name turn = pair_next turn
+stage_next aim Names name turn = open_next Names turn
+stage_next aim Empties name turn = open_next Empties turn
 stage_next aim Over name turn = Over
 
 -- whether an element or a name begins where a container or a comma was read
@@ -136,6 +142,8 @@ abbrev pub begins_part : Stage → Bool
 begins_part Array = true
 begins_part (Members level) = true
 begins_part Name = true
+begins_part Names = true
+begins_part Empties = true
 begins_part Object = false
 begins_part Pair = false
 begins_part (Ahead level) = false
@@ -147,6 +155,8 @@ abbrev pub begins_value : Stage → Bool
 begins_value Object = true
 begins_value Pair = true
 begins_value Name = false
+begins_value Names = false
+begins_value Empties = false
 begins_value Array = false
 begins_value (Members level) = false
 begins_value (Ahead level) = false
@@ -172,6 +182,8 @@ height_in Array height = height
 height_in Object height = height
 height_in Name height = height
 height_in Pair height = height
+height_in Names height = height
+height_in Empties height = height
 height_in Over height = height
 
 abbrev pub height_by : Turn → Stage → ℕ → ℕ
@@ -200,11 +212,18 @@ abbrev pub line_of : List ℕ → List ℕ
 line_of [] = []
 line_of (byte ∷ bytes) = (byte ∷ bytes) ++ 0x0a ∷ []
 
--- the line of what is kept, where that is an element
+-- the same where lines are empty
+abbrev pub empty_line_of : List ℕ → List ℕ
+empty_line_of [] = []
+empty_line_of (byte ∷ bytes) = 0x0a ∷ []
+
+-- the line of what is kept, where that is an element or the name of a member
 abbrev pub lines_with : Stage → List ℕ → List ℕ → List ℕ
 lines_with Array lines part = lines ++ line_of part
 lines_with Object lines part = lines ++ line_of part
 lines_with Pair lines part = lines ++ (part ++ codes "}\n")
+lines_with Names lines part = lines ++ line_of part
+lines_with Empties lines part = lines ++ empty_line_of part
 lines_with Name lines part = lines
 lines_with (Members level) lines part = lines
 lines_with (Ahead level) lines part = lines
@@ -220,12 +239,14 @@ lines_next stage Value lines part = lines
 lines_next stage Past lines part = lines
 lines_next stage Stay lines part = lines
 
--- what is kept in front of an element or of a name, by the stage there
+-- the bytes that are kept in front of an element or of a name, by the stage there
 abbrev pub part_at : Stage → List ℕ
 part_at Name = codes "{\"name\":"
 part_at Array = []
 part_at Object = []
 part_at Pair = []
+part_at Names = []
+part_at Empties = []
 part_at (Members level) = []
 part_at (Ahead level) = []
 part_at (Elements level n) = []
@@ -234,6 +255,8 @@ part_at Over = []
 -- after the colon, by the stage in front of it
 abbrev pub part_of_value : Stage → List ℕ → List ℕ
 part_of_value Name part = part ++ codes ",\"value\":"
+part_of_value Names part = part
+part_of_value Empties part = part
 part_of_value Array part = []
 part_of_value Object part = []
 part_of_value Pair part = []
@@ -262,7 +285,7 @@ step aim made byte =
       part = part_next turn made.stand stand.stage made.part byte;
     }
 
--- what is made after some bytes
+-- the lines and parts that are made after some bytes
 abbrev pub run : Aim → Made → List ℕ → Made
 run aim made [] = made
 run aim made (byte ∷ bytes) = run aim (step aim made byte) bytes

@@ -17,7 +17,7 @@ sign_of byte =
     if byte == 0x2c then sign.Comma else
     if byte == 0x3a then sign.Colon else sign.Other
 
--- what such a byte does where so many containers are open
+-- the turn of such a byte where so many containers are open
 abbrev pub turn_by : ℕ → Sign → Turn
 turn_by zero sign.OpenArray = turns.EnterArray
 turn_by zero sign.OpenObject = turns.EnterObject

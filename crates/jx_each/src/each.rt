@@ -66,6 +66,8 @@ fn has_begun(stage: Stage) -> bool
         Stage::Object => true,
         Stage::Name => true,
         Stage::Pair => true,
+        Stage::Names => true,
+        Stage::Empties => true,
         Stage::Over => true,
     }
 }
@@ -96,8 +98,7 @@ impl Model for Each {
 }
 
 impl Each {
-    /// One that has taken no byte, by a pointer as it is written. Its settings' names are ignored. `Err` when out of
-    /// memory.
+    /// An `Each` that has taken no byte, by a pointer as it is written. Its settings' names are ignored. `Err` when out of memory.
     pub fn new(alloc: Global, settings: &Settings, pointer: &str) -> Result<Each, AllocError>
         requires { IsPointer pointer.now }
         ensures settings { IfOk result (λ each. each.reader.settings ≡ settings.now) }
@@ -107,7 +108,7 @@ impl Each {
         Each::with_content(alloc, settings, pointer, LineContent::Alone)
     }
 
-    /// One that has taken no byte, by a pointer and by what a line has. Its settings' names are ignored.
+    /// An `Each` that has taken no byte, by a pointer and by what a line has. Its settings' names are ignored.
     pub fn with_content(
         alloc: Global,
         settings: &Settings,
@@ -213,7 +214,7 @@ impl Each {
         &self.target
     }
 
-    /// How far the container is found; none when out of memory.
+    /// The stage to which the container is found; none when out of memory.
     pub fn stage(&self) -> Option<Stage>
         ensures { result ≡ option_map (λ stand. stand.stage) self.now.stand }
     {
@@ -242,7 +243,7 @@ impl Each {
         ensures reader { self.new.reader ≡ self.old.reader }
         ensures path { self.new.path ≡ self.old.path }
         ensures content { self.new.content ≡ self.old.content }
-        // What has failed stays failed.
+        // A failure stays.
         ensures stand { self.new.stand ≡ self.old.stand }
         ensures part { self.new.part ≡ self.old.part }
         ensures ready { self.new.ready ≡ [] }
@@ -266,7 +267,7 @@ impl Each {
         &self.reader
     }
 
-    /// How many tokens the pointer has.
+    /// The number of tokens that the pointer has.
     pub fn token_count(&self) -> usize
         ensures { result ≡ length self.now.path }
     {

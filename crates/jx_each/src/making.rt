@@ -2,7 +2,7 @@
 ghost use Rattle.std.specs.Prelude.{◌≡◌, ◌+◌, ◌-◌, ◌<◌, ◌≤◌, ◌^◌, ◌++◌, [], Bool, codes, IfOk, IsTrue, OnOk, if◌then◌else◌, length, slice_range, true};
 ghost use Rattle.jx_compact.specs.Compact.{kept};
 ghost use Rattle.jx_each.specs.Turns.{turn_at};
-ghost use Rattle.jx_each.specs.Machine.{Aim, line_of, lines_next, lines_with, part_at, part_next, part_of_value, run, step};
+ghost use Rattle.jx_each.specs.Machine.{Aim, empty_line_of, line_of, lines_next, lines_with, part_at, part_next, part_of_value, run, step};
 ghost use Rattle.jx_each.specs.inside.Paths.{aim_of, count_in};
 ghost use Rattle.jx_each.specs.inside.Stretches.{spot, spot_in_array};
 
@@ -41,6 +41,17 @@ fn end_value(lines: &mut Vec<u8>, part: &[u8]) -> Result<(), AllocError>
     Ok(())
 }
 
+/// Appends an empty line for an element or a member, if there is one.
+fn end_empty(lines: &mut Vec<u8>, part: &[u8]) -> Result<(), AllocError>
+    ensures { OnOk result (lines.new.items ≡ lines.old.items ++ empty_line_of part.now) }
+{
+    if part.is_empty() {
+        return Ok(());
+    }
+    lines.push(b'\n')?;
+    Ok(())
+}
+
 /// Appends the line of a name and a value.
 fn end_pair(lines: &mut Vec<u8>, part: &[u8]) -> Result<(), AllocError>
     ensures { OnOk result (lines.new.items ≡ lines.old.items ++ (part.now ++ codes "}\n")) }
@@ -49,7 +60,7 @@ fn end_pair(lines: &mut Vec<u8>, part: &[u8]) -> Result<(), AllocError>
     lines.extend_from_slice(b"}\n")
 }
 
-/// Appends the line of what is kept, where that is an element.
+/// Appends the line of what is kept, where that is an element or the name of a member.
 fn end_line(lines: &mut Vec<u8>, stage: Stage, part: &[u8]) -> Result<(), AllocError>
     ensures { OnOk result (lines.new.items ≡ lines_with stage lines.old.items part.now) }
 {
@@ -57,6 +68,8 @@ fn end_line(lines: &mut Vec<u8>, stage: Stage, part: &[u8]) -> Result<(), AllocE
         Stage::Array => end_value(lines, part),
         Stage::Object => end_value(lines, part),
         Stage::Pair => end_pair(lines, part),
+        Stage::Names => end_value(lines, part),
+        Stage::Empties => end_empty(lines, part),
         Stage::Name => Ok(()),
         Stage::Members { level: _ } => Ok(()),
         Stage::Ahead { level: _ } => Ok(()),
@@ -90,6 +103,8 @@ fn begin_part(part: &mut Vec<u8>, stage: Stage) -> Result<(), AllocError>
         Stage::Array => Ok(()),
         Stage::Object => Ok(()),
         Stage::Pair => Ok(()),
+        Stage::Names => Ok(()),
+        Stage::Empties => Ok(()),
         Stage::Members { level: _ } => Ok(()),
         Stage::Ahead { level: _ } => Ok(()),
         Stage::Elements { level: _, count: _ } => Ok(()),
@@ -97,13 +112,15 @@ fn begin_part(part: &mut Vec<u8>, stage: Stage) -> Result<(), AllocError>
     }
 }
 
-/// Keeps what stands between a name and its value where the name is written, by the stage in front of the colon; else lets go
-/// what was kept.
+/// Keeps what stands between a name and its value where both are written, by the stage in front of the colon. A name stays
+/// that is written alone or counted; else lets go what was kept.
 fn begin_value(part: &mut Vec<u8>, stage: Stage) -> Result<(), AllocError>
     ensures { OnOk result (part.new.items ≡ part_of_value stage part.old.items) }
 {
     match stage {
         Stage::Name => part.extend_from_slice(b",\"value\":"),
+        Stage::Names => Ok(()),
+        Stage::Empties => Ok(()),
         Stage::Array => {
             part.clear();
             Ok(())
@@ -193,6 +210,8 @@ fn is_array(stage: Stage) -> bool
         Stage::Object => false,
         Stage::Name => false,
         Stage::Pair => false,
+        Stage::Names => false,
+        Stage::Empties => false,
         Stage::Members { level: _ } => false,
         Stage::Ahead { level: _ } => false,
         Stage::Elements { level: _, count: _ } => false,

@@ -20,6 +20,10 @@ pub enum Stage {
     /// In the container itself, whose members are written with their names: in front of a colon, and after it.
     Name,
     Pair,
+    /// In the container itself, of whose members the names alone are written.
+    Names,
+    /// In the container itself, each of whose elements or members has an empty line.
+    Empties,
     /// After it, or where it cannot come any more.
     Over,
 }

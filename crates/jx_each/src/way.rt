@@ -31,6 +31,8 @@ fn in_array(content: LineContent) -> Stage
     match content {
         LineContent::Alone => Stage::Array,
         LineContent::Named => Stage::Over,
+        LineContent::NameAlone => Stage::Over,
+        LineContent::Empty => Stage::Empties,
     }
 }
 
@@ -41,6 +43,8 @@ fn in_object(content: LineContent) -> Stage
     match content {
         LineContent::Alone => Stage::Object,
         LineContent::Named => Stage::Name,
+        LineContent::NameAlone => Stage::Names,
+        LineContent::Empty => Stage::Empties,
     }
 }
 
@@ -186,6 +190,8 @@ fn stage_next(target: &Target, stage: Stage, name: &[u8], turn: Turn) -> Stage
         Stage::Object => open_next(Stage::Object, turn),
         Stage::Name => name_next(turn),
         Stage::Pair => pair_next(turn),
+        Stage::Names => open_next(Stage::Names, turn),
+        Stage::Empties => open_next(Stage::Empties, turn),
         Stage::Over => Stage::Over,
     }
 }
@@ -198,6 +204,8 @@ fn begins_part(stage: Stage) -> bool
         Stage::Array => true,
         Stage::Members { level: _ } => true,
         Stage::Name => true,
+        Stage::Names => true,
+        Stage::Empties => true,
         Stage::Object => false,
         Stage::Pair => false,
         Stage::Ahead { level: _ } => false,
@@ -214,6 +222,8 @@ fn begins_value(stage: Stage) -> bool
         Stage::Object => true,
         Stage::Pair => true,
         Stage::Name => false,
+        Stage::Names => false,
+        Stage::Empties => false,
         Stage::Array => false,
         Stage::Members { level: _ } => false,
         Stage::Ahead { level: _ } => false,
@@ -250,6 +260,8 @@ fn height_in(stage: Stage, height: usize) -> usize
         Stage::Object => height,
         Stage::Name => height,
         Stage::Pair => height,
+        Stage::Names => height,
+        Stage::Empties => height,
         Stage::Over => height,
     }
 }

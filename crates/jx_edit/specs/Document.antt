@@ -1,4 +1,4 @@
--- What a contract sees of a document, and of an edit.
+-- The parts of a document, and of an edit, that a contract sees.
 use Rattle.std.specs.Prelude.{ℕ, List, ◌++◌, take, drop}
 use Rattle.jx_run.specs.declared.texts.settings.Settings.{Settings}
 

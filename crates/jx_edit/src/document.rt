@@ -166,7 +166,7 @@ impl Document {
         self.rest.chunk_at(offset - mark.len())
     }
 
-    /// All bytes, chunk by chunk. Nothing is copied.
+    /// The bytes, chunk by chunk. Nothing is copied.
     pub fn chunks(&self) -> Chunks<'_>
         ensures { concat result ≡ self.now.bytes }
     {
@@ -258,8 +258,8 @@ impl Document {
         }
     }
 
-    /// Where a reading of its text by its settings is at an offset; none where the bytes before it do not begin a text. It is
-    /// known after a verdict, which reads the text: before it may be none. It reads the bytes of one chunk.
+    /// The stand of a reading of its text by its settings at an offset; none where the bytes before it do not begin a text. It is known after a
+    /// verdict, which reads the text: before it may be none. It reads the bytes of one chunk.
     pub fn stand(&self, at: usize) -> Result<Option<Stand>, AllocError>
         ensures { IfOk result (λ found. IfSome found (StandsBefore self.now.settings self.now.bytes at)) }
     {

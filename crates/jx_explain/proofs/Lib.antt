@@ -1,1 +1,2 @@
 pub mod FirstPass
+pub mod Standings

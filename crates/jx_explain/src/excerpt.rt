@@ -1,13 +1,11 @@
 // The text of a line around a place, with a caret below the place.
+use crate::scene::Scene;
 use jx_sentence::{columns, first_columns, last_columns, push_shown};
 use memchr::{memchr, memrchr};
 use std::alloc::AllocError;
 
 /// How many columns are shown on each side of a place. With dots at both ends a line has less than 80.
 const SIDE: usize = 37;
-
-/// How many bytes are looked at on each side: a character that is shown takes at most four.
-const SIDE_BYTES: usize = 4 * SIDE + 4;
 
 /// The sign at an end of a line that is cut there.
 const CUT: &str = "..";
@@ -33,14 +31,11 @@ fn from_character(bytes: &[u8]) -> &[u8] {
 }
 
 /// The bytes of the line of a place before it, as far as it is shown.
-fn before(text: &[u8], at: usize) -> Side<'_> {
-    let all = text.get(..at).unwrap_or(text);
-    let near = all
-        .get(all.len().saturating_sub(SIDE_BYTES)..)
-        .unwrap_or(all);
+fn before(scene: &Scene) -> Side<'_> {
+    let near = scene.before();
     let (line, is_far) = match memrchr(b'\n', near) {
         Some(feed) => (near.get(feed + 1..).unwrap_or(&[]), false),
-        None if near.len() < all.len() => (from_character(near), true),
+        None if scene.is_cut_before => (from_character(near), true),
         None => (near, false),
     };
     let shown = last_columns(line, SIDE);
@@ -52,12 +47,11 @@ fn before(text: &[u8], at: usize) -> Side<'_> {
 
 /// The bytes of the line of a place from it on, as far as it is shown. A carriage return before the line feed is left
 /// out.
-fn behind(text: &[u8], at: usize) -> Side<'_> {
-    let all = text.get(at..).unwrap_or(&[]);
-    let near = all.get(..SIDE_BYTES).unwrap_or(all);
+fn behind(scene: &Scene) -> Side<'_> {
+    let near = scene.rest();
     let (line, is_far) = match memchr(b'\n', near) {
         Some(feed) => (near.get(..feed).unwrap_or(near), false),
-        None => (near, near.len() < all.len()),
+        None => (near, scene.is_cut_after),
     };
     let whole = line.strip_suffix(b"\r").unwrap_or(line);
     let shown = first_columns(whole, SIDE + 1);
@@ -73,14 +67,9 @@ fn dots(is_cut: bool) -> &'static str {
 }
 
 /// Appends the text of a place's line around it, and in a line below it a caret below the place.
-pub fn push_excerpt(
-    out: &mut String,
-    text: &[u8],
-    at: usize,
-    caret: &str,
-) -> Result<(), AllocError> {
-    let front = before(text, at);
-    let back = behind(text, at);
+pub fn push_excerpt(out: &mut String, scene: &Scene, caret: &str) -> Result<(), AllocError> {
+    let front = before(scene);
+    let back = behind(scene);
     out.push_str(dots(front.is_cut))?;
     push_shown(out, front.shown)?;
     push_shown(out, back.shown)?;

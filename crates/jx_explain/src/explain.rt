@@ -2,10 +2,12 @@
 use crate::excerpt::push_excerpt;
 use crate::notes::push_notes;
 use crate::object::{push_accepted_object, push_front, push_place, push_words, word_of};
+use crate::scene::Scene;
+use crate::seen::scene_in;
+use crate::sentence::sentence_in;
 use crate::trail::pointer_along;
-use crate::way::way_to;
 use jx_run::{Refusal, Settings, Verdict};
-use jx_sentence::{offset_of, place_of, push_sentence, push_shown};
+use jx_sentence::push_shown;
 use std::alloc::{AllocError, Global};
 use std::fmt::Write;
 
@@ -54,57 +56,84 @@ pub enum Form {
         tells_accepted: bool,
     },
     /// As compilers report faults: of a text that is refused the place and a sentence, in one line, and of any other
-    /// nothing.
+    /// nothing. Columns count bytes.
     Mark,
     /// As a JSON object in one line.
     Object,
 }
 
-/// A line on a text of this name that is refused by settings, as compilers report faults: the place, what is wrong
-/// there in a sentence, and the offset.
-fn marked(
-    alloc: Global,
+/// A line on a text of this name that is refused, as compilers report faults: the line and a column, what is wrong there in a
+/// sentence, and the offset.
+fn push_marked(
+    out: &mut String,
     name: &[u8],
-    text: &[u8],
-    refusal: Refusal,
-    settings: &Settings,
+    scene: &Scene,
+    column: usize,
+    sentence: &str,
     marking: Marking,
-) -> Result<String, AllocError> {
-    let at = offset_of(text, refusal).min(text.len());
-    let place = place_of(text, at);
-    let line = place.line;
-    let column = place.column;
-    let mut out = String::new(alloc);
+) -> Result<(), AllocError> {
+    let at = scene.at;
+    let line = scene.position.place.line;
     out.push_str(marking.place())?;
-    push_shown(&mut out, name)?;
+    push_shown(out, name)?;
     write!(out, ":{line}:{column}:")?;
     out.push_str(marking.end())?;
-    out.push(' ')?;
-    push_sentence(alloc, &mut out, text, refusal, settings)?;
-    write!(out, " (byte {at})\n")?;
-    Ok(out)
+    write!(out, " {sentence} (byte {at})\n")?;
+    Ok(())
 }
 
-/// The report for people on a text of this name that is refused by settings: the line with the place and the sentence,
-/// and the line of the place with a caret. A line that is long is cut around the place, and what is no UTF-8 or not
-/// printed is shown by its bytes. Notes follow that.
-fn refused(
+/// Appends the object of a text of this name that is refused.
+fn push_object(
+    alloc: Global,
+    out: &mut String,
+    name: &[u8],
+    scene: &Scene,
+    sentence: &str,
+    refusal: Refusal,
+) -> Result<(), AllocError> {
+    let pointer = pointer_along(alloc, &scene.trail.names, scene.to_place())?;
+    push_front(out, name, word_of(refusal))?;
+    push_place(out, scene.at, scene.position.place)?;
+    push_words(out, sentence.as_bytes(), pointer.as_deref())
+}
+
+/// The report on a text of this name that is refused. For people it has the line with the place and the sentence, and the line of the
+/// place with a caret. A line that is long is cut around the place, and what is no UTF-8 or not printed is shown by its bytes. Notes
+/// follow that.
+pub(crate) fn refused(
     alloc: Global,
     name: &[u8],
-    text: &[u8],
+    scene: &Scene,
+    sentence: &str,
     refusal: Refusal,
-    settings: &Settings,
-    marking: Marking,
+    form: Form,
 ) -> Result<String, AllocError> {
-    let at = offset_of(text, refusal).min(text.len());
-    let mut out = marked(alloc, name, text, refusal, settings, marking)?;
-    push_excerpt(&mut out, text, at, marking.caret())?;
-    push_notes(alloc, &mut out, text, refusal, settings)?;
+    let mut out = String::new(alloc);
+    let position = scene.position;
+    match form {
+        Form::People { marking, .. } => {
+            let column = position.place.column;
+            push_marked(&mut out, name, scene, column, sentence, marking)?;
+            push_excerpt(&mut out, scene, marking.caret())?;
+            push_notes(alloc, &mut out, scene, refusal)?;
+        }
+        Form::Mark => {
+            push_marked(
+                &mut out,
+                name,
+                scene,
+                position.byte,
+                sentence,
+                Marking::Plain,
+            )?;
+        }
+        Form::Object => push_object(alloc, &mut out, name, scene, sentence, refusal)?,
+    }
     Ok(out)
 }
 
 /// The report on a text of this name that is accepted.
-fn accepted(alloc: Global, name: &[u8], form: Form) -> Result<String, AllocError> {
+pub(crate) fn accepted(alloc: Global, name: &[u8], form: Form) -> Result<String, AllocError> {
     let mut out = String::new(alloc);
     match form {
         Form::People {
@@ -120,26 +149,6 @@ fn accepted(alloc: Global, name: &[u8], form: Form) -> Result<String, AllocError
     Ok(out)
 }
 
-/// The object of a text of this name that is refused by settings.
-fn refused_object(
-    alloc: Global,
-    name: &[u8],
-    text: &[u8],
-    refusal: Refusal,
-    settings: &Settings,
-) -> Result<String, AllocError> {
-    let at = offset_of(text, refusal).min(text.len());
-    let mut sentence = String::new(alloc);
-    push_sentence(alloc, &mut sentence, text, refusal, settings)?;
-    let way = way_to(alloc, text, refusal, settings)?;
-    let pointer = pointer_along(alloc, text, way.to_place())?;
-    let mut out = String::new(alloc);
-    push_front(&mut out, name, word_of(refusal))?;
-    push_place(&mut out, at, place_of(text, at))?;
-    push_words(&mut out, sentence.as_bytes(), pointer.as_deref())?;
-    Ok(out)
-}
-
 /// The report on a text of this name in a form, by the verdict that settings give on it: that it is accepted, or where
 /// it is refused and why.
 pub fn explained(
@@ -150,16 +159,12 @@ pub fn explained(
     settings: &Settings,
     form: Form,
 ) -> Result<String, AllocError> {
-    match (verdict, form) {
-        (Verdict::Accepted, _) => accepted(alloc, name, form),
-        (Verdict::Refused(refusal), Form::People { marking, .. }) => {
-            refused(alloc, name, text, refusal, settings, marking)
-        }
-        (Verdict::Refused(refusal), Form::Mark) => {
-            marked(alloc, name, text, refusal, settings, Marking::Plain)
-        }
-        (Verdict::Refused(refusal), Form::Object) => {
-            refused_object(alloc, name, text, refusal, settings)
+    match verdict {
+        Verdict::Accepted => accepted(alloc, name, form),
+        Verdict::Refused(refusal) => {
+            let scene = scene_in(alloc, text, refusal, settings)?;
+            let sentence = sentence_in(alloc, text, &scene, refusal, settings)?;
+            refused(alloc, name, &scene, sentence.as_str(), refusal, form)
         }
     }
 }

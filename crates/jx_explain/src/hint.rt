@@ -1,11 +1,12 @@
 // Guesses at the cause of a fault.
+use crate::scene::Scene;
 use jx_lex::LexState;
 use jx_reduce::{Expect, Holder};
 use jx_sentence::Standing;
 use memchr::memrchr;
 
 /// Beginnings of bytes that are not valid JSON, and the report on each.
-const FRONTS: [(&[u8], &str); 5] = [
+const FRONTS: [(&[u8], &str); 6] = [
     (
         b"\xEF\xBB\xBF",
         "a byte order mark, which --ignore-bom ignores",
@@ -14,7 +15,11 @@ const FRONTS: [(&[u8], &str); 5] = [
     (b"\xFE\xFF", "UTF-16, where JSON has UTF-8"),
     (b"\x1F\x8B", "what gzip has packed"),
     (b"\x28\xB5\x2F\xFD", "what zstd has packed"),
+    (b"\x1E", "a text sequence, which jx seq reads"),
 ];
+
+/// A byte order mark.
+const MARK: &[u8] = b"\xEF\xBB\xBF";
 
 /// Quotation marks of letters: each is a character of three bytes.
 const CURLY: [&[u8]; 4] = [
@@ -102,25 +107,23 @@ fn is_behind_comma(standing: &Standing) -> bool {
     }
 }
 
-/// Whether nothing but white space is before an offset in its line, and a line before that.
-fn begins_line(text: &[u8], at: usize) -> bool {
-    let before = text.get(..at).unwrap_or(text);
-    match memrchr(b'\n', before) {
-        Some(feed) => {
-            let line = before.get(feed + 1..).unwrap_or(&[]);
-            line.iter().all(|byte| matches!(byte, b' ' | b'\t' | b'\r'))
-        }
-        None => false,
-    }
+/// Whether nothing but white space is before a place in its line, as far as it is known, and a line before that.
+fn begins_line(scene: &Scene) -> bool {
+    let before = scene.before();
+    let line = match memrchr(b'\n', before) {
+        Some(feed) => before.get(feed + 1..).unwrap_or(&[]),
+        None => before,
+    };
+    scene.position.place.line > 1 && line.iter().all(|byte| matches!(byte, b' ' | b'\t' | b'\r'))
 }
 
 /// A guess at the first byte of a value or a name after a value, where it may not stand.
-fn hint_behind_value(text: &[u8], at: usize, standing: &Standing) -> Option<&'static str> {
+fn hint_behind_value(scene: &Scene, standing: &Standing) -> Option<&'static str> {
     if standing.expect != Expect::After {
         return None;
     }
     match standing.top {
-        Holder::Bottom if begins_line(text, at) => {
+        Holder::Bottom if begins_line(scene) => {
             Some("a second text: in JSON Lines each line is one")
         }
         Holder::Bottom => Some("a second text right behind the first"),
@@ -128,16 +131,36 @@ fn hint_behind_value(text: &[u8], at: usize, standing: &Standing) -> Option<&'st
     }
 }
 
-/// Whether bytes stand right after a string in a container, and begin no value or name.
-fn is_behind_string(text: &[u8], rest: &[u8], standing: &Standing) -> bool {
-    let is_behind = matches!(standing.expect, Expect::After | Expect::Colon)
+/// Whether a place is after a string in a container, with nothing but white space between them.
+fn is_behind_string(scene: &Scene, standing: &Standing) -> bool {
+    matches!(standing.expect, Expect::After | Expect::Colon)
         && standing.top != Holder::Bottom
-        && text.get(standing.token) == Some(&b'"');
-    is_behind && !begins_with_literal(rest)
+        && scene.token_byte == Some(b'"')
+}
+
+/// Whether bytes after a string, of which the last byte is given, go on as its characters would.
+fn goes_on(last: Option<u8>, rest: &[u8]) -> bool {
+    match rest.first() {
+        Some(b'A'..=b'Z' | b'a'..=b'z') => !begins_with_literal(rest),
+        Some(b'0'..=b'9' | b'-' | b'_' | b'\\' | 0x80..=0xff) => last == Some(b'"'),
+        _ => false,
+    }
+}
+
+/// A guess at a byte order mark after a text.
+fn hint_of_mark(rest: &[u8], standing: &Standing) -> Option<&'static str> {
+    let is_joined = standing.expect == Expect::After
+        && standing.top == Holder::Bottom
+        && rest.starts_with(MARK);
+    if is_joined {
+        Some("a byte order mark between two texts")
+    } else {
+        None
+    }
 }
 
 /// A guess at a byte between tokens, where it is no letter after a string.
-fn hint_between(text: &[u8], at: usize, standing: &Standing, byte: u8) -> Option<&'static str> {
+fn hint_between(scene: &Scene, standing: &Standing, byte: u8) -> Option<&'static str> {
     let expect = standing.expect;
     match byte {
         b'/' | b'#' => Some("a comment, which JSON has not"),
@@ -148,45 +171,55 @@ fn hint_between(text: &[u8], at: usize, standing: &Standing, byte: u8) -> Option
         b'A'..=b'Z' | b'a'..=b'z' | b'_' | b'$' if wants_name(expect) => {
             Some("a name without quotation marks")
         }
-        b'{' | b'[' | b'"' | b'-' | b'0'..=b'9' | b't' | b'f' | b'n' => {
-            hint_behind_value(text, at, standing)
+        b'<' if standing.top == Holder::Bottom && wants_value(expect) => {
+            Some("HTML or XML, where JSON is due")
         }
+        b'{' | b'[' | b'"' | b'-' | b'0'..=b'9' | b't' | b'f' | b'n' => {
+            hint_behind_value(scene, standing)
+        }
+        0xef => hint_of_mark(scene.rest(), standing),
         _ => None,
     }
 }
 
-/// A guess at the bytes between tokens at an offset.
-fn hint_in_gap(text: &[u8], at: usize, standing: &Standing) -> Option<&'static str> {
-    let rest = text.get(at..).unwrap_or(&[]);
+/// A guess at the bytes between tokens at a place.
+fn hint_in_gap(scene: &Scene, standing: &Standing) -> Option<&'static str> {
+    let rest = scene.rest();
     let byte = *rest.first()?;
+    let last = scene.before().last().copied();
     let expect = standing.expect;
     match hint_of_word(rest) {
         Some(hint) if wants_value(expect) => Some(hint),
         _ if begins_with_one(rest, &CURLY) && (wants_value(expect) || wants_name(expect)) => {
             Some("quotation marks of letters, where JSON has \"")
         }
-        _ if byte.is_ascii_alphabetic() && is_behind_string(text, rest, standing) => {
+        _ if is_behind_string(scene, standing) && goes_on(last, rest) => {
             Some("a quotation mark is missing, or one is not escaped")
         }
-        _ => hint_between(text, at, standing, byte),
+        _ => hint_between(scene, standing, byte),
     }
 }
 
-/// A guess at the bytes at an offset, by where the reading stands there.
-pub fn hint_at(text: &[u8], at: usize, standing: &Standing) -> Option<&'static str> {
-    let rest = text.get(at..).unwrap_or(&[]);
-    let front = if at < 2 { hint_of_front(text) } else { None };
+/// A guess at the bytes at a place, by where the reading stands there.
+pub fn hint_at(scene: &Scene) -> Option<&'static str> {
+    let standing = scene.standing.as_ref()?;
+    let front = if scene.at < 2 {
+        hint_of_front(&scene.near)
+    } else {
+        None
+    };
     if front.is_some() {
         return front;
     }
+    let next = scene.rest().first();
     match standing.state {
-        LexState::Gap => hint_in_gap(text, at, standing),
-        LexState::Str if matches!(rest.first(), Some(b'\n' | b'\r')) => {
+        LexState::Gap => hint_in_gap(scene, standing),
+        LexState::Str if matches!(next, Some(b'\n' | b'\r')) => {
             Some("a string without its closing quotation mark")
         }
-        LexState::Zero if matches!(rest.first(), Some(b'x' | b'X')) => {
+        LexState::Zero if matches!(next, Some(b'x' | b'X')) => {
             Some("a hexadecimal number, which JSON has not")
         }
-        _ => hint_of_word(text.get(standing.token..).unwrap_or(&[])),
+        _ => hint_of_word(scene.from_token(standing)),
     }
 }

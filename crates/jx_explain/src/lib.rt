@@ -3,15 +3,21 @@
 
 mod excerpt;
 mod explain;
+mod explainer;
 mod first_pass;
 mod hint;
 mod notes;
 mod object;
+mod position;
+mod reached;
 mod reporting;
+mod scene;
+mod seen;
+mod sentence;
 mod trail;
-mod way;
 
 pub use explain::{Form, Marking, explained};
+pub use explainer::Explainer;
 pub use first_pass::exit_of_input;
 pub use object::object_front;
 pub use reporting::report_explained;

@@ -1,9 +1,9 @@
 // The report on a fault after its line.
 use crate::hint::hint_at;
+use crate::scene::Scene;
 use crate::trail::{Step, pointer_along};
-use crate::way::way_to;
-use jx_run::{Refusal, Settings};
-use jx_sentence::{push_shown, standing_before};
+use jx_run::Refusal;
+use jx_sentence::push_shown;
 use std::alloc::{AllocError, Global};
 
 /// How many open brackets are reported at most, of those that were opened last.
@@ -34,13 +34,8 @@ fn push_open(out: &mut String, steps: &[Step]) -> Result<(), AllocError> {
 }
 
 /// Appends the pointer of a place, if it is not the whole text's.
-fn push_pointer(
-    alloc: Global,
-    out: &mut String,
-    text: &[u8],
-    steps: &[Step],
-) -> Result<(), AllocError> {
-    match pointer_along(alloc, text, steps)? {
+fn push_pointer(alloc: Global, out: &mut String, scene: &Scene) -> Result<(), AllocError> {
+    match pointer_along(alloc, &scene.trail.names, scene.to_place())? {
         Some(pointer) if !pointer.is_empty() => {
             out.push_str("pointer: ")?;
             push_shown(out, &pointer)?;
@@ -50,18 +45,9 @@ fn push_pointer(
     }
 }
 
-/// Appends what the fault at an offset probably is, where that is known.
-fn push_hint(
-    alloc: Global,
-    out: &mut String,
-    text: &[u8],
-    at: usize,
-    settings: &Settings,
-) -> Result<(), AllocError> {
-    let Some(standing) = standing_before(alloc, text, at, settings)? else {
-        return Ok(());
-    };
-    let Some(hint) = hint_at(text, at, &standing) else {
+/// Appends what the fault at a place probably is, where that is known.
+fn push_hint(out: &mut String, scene: &Scene) -> Result<(), AllocError> {
+    let Some(hint) = hint_at(scene) else {
         return Ok(());
     };
     out.push_str("perhaps: ")?;
@@ -74,15 +60,13 @@ fn push_hint(
 pub fn push_notes(
     alloc: Global,
     out: &mut String,
-    text: &[u8],
+    scene: &Scene,
     refusal: Refusal,
-    settings: &Settings,
 ) -> Result<(), AllocError> {
-    let way = way_to(alloc, text, refusal, settings)?;
-    push_pointer(alloc, out, text, way.to_place())?;
+    push_pointer(alloc, out, scene)?;
     match refusal {
-        Refusal::Truncated => push_open(out, &way.steps),
-        Refusal::Stopped { at } => push_hint(alloc, out, text, at, settings),
+        Refusal::Truncated => push_open(out, &scene.trail.steps),
+        Refusal::Stopped { .. } => push_hint(out, scene),
         Refusal::TooDeep { .. } | Refusal::RepeatedName { .. } => Ok(()),
     }
 }

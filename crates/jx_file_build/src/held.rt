@@ -31,7 +31,7 @@ pub(crate) struct Added {
     pub len: usize,
 }
 
-/// What is kept of chunks.
+/// The entries and names that are kept of chunks.
 #[derive(Drop)]
 pub(crate) struct KeptChunks {
     pub entries: Vec<Entry>,
@@ -122,7 +122,7 @@ impl Held {
         verdict_at(self.progress, self.stack.whole())
     }
 
-    /// What is kept of the chunks.
+    /// The entries and names that are kept of the chunks.
     pub(crate) fn into_kept(self) -> KeptChunks
         ensures entries { result.entries.items ≡ self.entries }
         ensures names { result.names ≡ self.names }

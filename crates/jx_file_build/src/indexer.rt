@@ -83,7 +83,7 @@ fn all_of(held: Held, part: &[u8]) -> Result<Held, AllocError>
     Ok(all)
 }
 
-/// What is saved of an accepted text, of what is kept of all its chunks. There is nothing where it has no chunk.
+/// The saved text of an accepted text, made of what is kept of all its chunks. There is nothing where it has no chunk.
 fn saved_of(
     alloc: Global,
     settings: &Settings,

@@ -12,7 +12,7 @@ use jx_reduce::{Expect, KnownStack, Whole};
 use std::alloc::{AllocError, Global};
 use std::marker::{Brand, PhantomData};
 
-/// What stands open before a chunk, and its bytes. A call picks it.
+/// The open containers and names before a chunk, and its bytes. A call picks it.
 pub trait Before {
     ghost use Rattle.jx_file_build.specs.inside.ChunkNames.{Start};
 
@@ -122,7 +122,7 @@ impl<'a, B: Before> OnChunk<'a, B> {
         }
     }
 
-    /// What stands open after the chunk, and the hashes of its names.
+    /// The standing after the chunk, and the hashes of its names.
     pub(crate) fn into_told(self) -> Result<ToldChunk, AllocError>
         ensures told { IfOk result (λ told. (marks : List Mark) (ends : List ℕ)
             → HasGathered B.start marks ends self.entry.chunk.now self.entry.base self.entry.stack self.entry.sum self.entry.begun self.entry.name.items self.entry.hashes.items

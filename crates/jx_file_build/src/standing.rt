@@ -1,4 +1,4 @@
-// What stands open of a text between two chunks.
+// The containers and the name of a text that are open between two chunks.
 use jx_lex::Mark;
 use jx_reduce::KnownStack;
 
@@ -10,7 +10,7 @@ pub struct Standing {
     pub name: Vec<u8>,
 }
 
-/// What stands open after a chunk, and the hashes of its names.
+/// The standing after a chunk, and the hashes of its names.
 #[derive(Drop)]
 pub struct ToldChunk {
     pub standing: Standing,

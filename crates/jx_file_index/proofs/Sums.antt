@@ -175,8 +175,11 @@ nothing_behind l = go (cases l nothing)
     go (equal f is) = is ∙ same _ _ _ _ _ _ refl f (omega arith)
     go (more f is) = absurd (grind (arith, nat_tests))
 
+-- a sum joined behind another is that of its marks from there on
+pub joins : (l : Sum) (ys : List Mark) → joined l (sum_of ys) ≡ on_from l ys
+joins l ys = all_behind l nothing ys ∙ ap (λ (s : Sum). on_from s ys) (nothing_behind l)
+
 pub sums_join : (xs ys : List Mark) → sum_of (xs ++ ys) ≡ joined (sum_of xs) (sum_of ys)
 sums_join xs ys =
     fold-append (λ s mark. noted mark.kind s) nothing xs ys
-    ∙ ap (λ (s : Sum). on_from s ys) (sym (nothing_behind (sum_of xs)))
-    ∙ sym (all_behind (sum_of xs) nothing ys)
+    ∙ sym (joins (sum_of xs) ys)

@@ -41,7 +41,7 @@ state_behind (reads (went s e o)) = s
 state_behind (reads (stopped at)) = Gap
 state_behind (reads (too_deep at)) = Gap
 
--- what may stand next; in front of a text a value
+-- the tokens that may stand next; in front of a text a value
 abbrev pub expect_behind : Outcome → Expect
 expect_behind (in_front n) = Value
 expect_behind (reads (went s e o)) = e
@@ -59,7 +59,7 @@ entry_behind before chunk = record {
   digest = xxh64 chunk;
 }
 
--- what the first bytes of a text lead to, so many
+-- the outcome of the first bytes of a text, so many
 abbrev pub before : Settings → List ℕ → ℕ → Outcome
 before settings text count = read_by settings.mark settings.depth 0 (take count text)
 

@@ -42,8 +42,8 @@ unfoldable pub joined_of : List Entry → ℕ → List Entry
 joined_of es zero = []
 joined_of es (suc n) = joined_of es n ++ joined_entry (part 64 es n) ∷ []
 
--- what is kept of a level and those above it: the one entry at the top, and in front of what is kept of the level above a
--- level that has several
+-- the entries that are kept of a level and those above it: the one entry at the top, and in front of what is kept of
+-- the level above a level that has several
 pub data AreLevels : List Entry → List Entry → Entry → Type 0 where
   at_top : {e : Entry} → AreLevels (e ∷ []) [] e
   level : {es : List Entry} {n : ℕ} {rest : List Entry} {top : Entry} → 1 < length es → IsCount 64 (length es) n → AreLevels (joined_of es n) rest top → AreLevels es (es ++ rest) top

@@ -56,7 +56,7 @@ pub record SaysSame (one other : Index) : Type 0 where
 abbrev pub IsMemory : SavedFault → Type 0
 IsMemory fault = fault ≡ Memory
 
--- what a fault says of the first bytes
+-- a fault agrees with the first bytes
 abbrev pub SaysOf : List ℕ → SavedFault → Type 0
 SaysOf bytes NotAnIndex = take 7 bytes ≢ take 7 tag
 SaysOf bytes OtherVersion = (take 7 bytes ≡ take 7 tag) × (take 8 bytes ≢ tag)

@@ -22,7 +22,7 @@ flags true false = 1
 flags false true = 2
 flags true true = 3
 
--- what may stand next, by its place
+-- the number of the tokens that may stand next
 abbrev pub expect_number : Expect → ℕ
 expect_number expect.Value = 0
 expect_number expect.ArrayFirst = 1
@@ -56,7 +56,7 @@ front_flags Ignored Any = 1
 front_flags Refused Unique = 2
 front_flags Ignored Unique = 3
 
--- what its digest is of
+-- the bytes that its digest is of
 abbrev pub spelt_front : Index → List ℕ
 spelt_front i =
     tag

@@ -36,7 +36,7 @@ impl ChunkSize {
         }
     }
 
-    /// How many bytes a chunk has.
+    /// The number of bytes that a chunk has.
     pub fn bytes(self) -> usize
         ensures value { result ≡ self }
         ensures within { (64 ≤ result) × (result ≤ 1048576) }

@@ -362,7 +362,7 @@ impl Index {
         // Nothing else is read.
         ensures found { IfOk result (λ index. spelt_index index ≡ bytes.now) }
         ensures levels { IfOk result HasItsLevels }
-        // What is written so is read, unless memory runs out.
+        // An index that is written so is read, unless memory runs out.
         ensures reads { IfOk result (λ index. (i : Index) → IsSavable i → bytes.now ≡ spelt_index i → SaysSame index i) }
         ensures only { IfErr result (λ fault. (i : Index) → IsSavable i → bytes.now ≡ spelt_index i → IsMemory fault) }
         // The fault follows from the first eight bytes, as far as they decide.

@@ -107,7 +107,7 @@ pub(crate) fn sealed(front: Vec<u8>) -> Result<Vec<u8>, AllocError>
 }
 
 impl Index {
-    /// Its bytes. It fails only when out of memory.
+    /// The encoding of the index. It fails only when out of memory.
     pub fn encode(&self, alloc: Global) -> Result<Vec<u8>, AllocError>
         ensures { IfOk result (λ bytes. bytes.items ≡ spelt_index self.now) }
     {

@@ -1,8 +1,8 @@
-// What is saved of a text.
+// The saved parts of a text.
 use crate::index::Index;
 use crate::name_tables::NameTables;
 
-/// What is saved of a text: its index, and the tables of its names, if these are saved too.
+/// The saved parts of a text: its index, and the tables of its names, if these are saved too.
 #[derive(Debug, Drop)]
 pub struct SavedText {
     pub index: Index,

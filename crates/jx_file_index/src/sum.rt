@@ -1,10 +1,29 @@
 // The effect of the token starts of a part of a text on open containers.
-ghost use Rattle.std.specs.Prelude.{◌≡◌, ℕ, List, SomeIff, IfSome, fold};
+ghost use Rattle.std.specs.Prelude.{◌≡◌, ◌+◌, ℕ, List, SomeIff, IfSome, fold};
 ghost use Rattle.jx_lex.specs.declared.alphabet.mark.Mark.{Mark};
 ghost use Rattle.jx_lex.specs.Counts.{HasCounts};
 ghost use Rattle.jx_file_index.specs.Sums.{closing, at_comma, opening, Fits, joined, noted, nothing};
 
 use jx_lex::{MarkKind, TokenCounts};
+
+/// The sum of tokens of which only the counts are known. There is none where a count is too large to be held.
+#[inline(always)]
+fn sum_by_counts(counts: &TokenCounts) -> Option<Sum>
+    ensures closed { IfSome result (λ sum. sum.closed ≡ counts.now.lowest) }
+    ensures opened { IfSome result (λ sum. sum.opened + counts.now.closing ≡ counts.now.lowest + counts.now.opening) }
+    ensures commas { IfSome result (λ sum. sum.commas ≡ counts.now.lowest_commas) }
+{
+    let raised = counts.lowest as u64 + counts.opening as u64;
+    let opened = raised.checked_sub(counts.closing as u64)?;
+    if counts.lowest > u16::MAX as u32 || opened > u16::MAX as u64 {
+        return None;
+    }
+    Some(Sum {
+        closed: counts.lowest as u16,
+        opened: opened as u16,
+        commas: counts.lowest_commas as u64,
+    })
+}
 
 /// The effect of the token starts of a part of a text on the containers that are open, whichever these are.
 #[derive(Clone, Copy, Debug, PartialEq, Eq)]
@@ -85,27 +104,15 @@ impl Sum {
         }
     }
 
-    /// The sum with tokens after it of which only the counts are known. There is none where it depends on their order,
-    /// and where a count is too large to be held.
+    /// The sum with tokens after it of which only the counts are known. There is none where a count is too large to be
+    /// held.
     #[inline(always)]
     pub fn counted(self, counts: &TokenCounts) -> Option<Sum>
         ensures { IfSome result (λ sum. (marks : List Mark) (ends : List ℕ) → HasCounts marks ends counts.now → sum ≡ fold (λ s mark. noted mark.kind s) self marks) }
     {
-        if counts.closing < self.opened as u32 {
-            let opened = self.opened as u64 - counts.closing as u64 + counts.opening as u64;
-            if opened > u16::MAX as u64 {
-                return None;
-            }
-            return Some(Sum {
-                opened: opened as u16,
-                ..self
-            });
-        }
-        if self.opened != 0 || counts.opening != 0 || counts.closing != 0 {
-            return None;
-        }
-        let commas = self.commas.checked_add(counts.commas as u64)?;
-        Some(Sum { commas, ..self })
+        let behind = sum_by_counts(counts)?;
+        let sum = self.join(behind)?;
+        Some(sum)
     }
 
     /// The sum of both parts, one after the other. There is none where a count is too large to be held.

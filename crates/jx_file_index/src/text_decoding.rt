@@ -1,4 +1,4 @@
-// What is saved of a text, from its bytes.
+// The saved parts of a text, from their bytes.
 ghost use Rattle.std.specs.Prelude.{◌≡◌, ◌*◌, ◌≤◌, ◌++◌, ℕ, List, length, take, true, IfErr, IfOk, IsTrue};
 ghost use Rattle.std.specs.Int.{w32, w64, to_le_bytes};
 ghost use Rattle.std.specs.List.{AllByRecursion, flat_map};
@@ -179,7 +179,7 @@ fn names_behind(
     Err(SavedFault::Damaged)
 }
 
-/// What was read, if its bytes are these.
+/// The saved text that was read, if its bytes are these.
 fn spelt_so(alloc: Global, read: SavedText, bytes: &[u8]) -> Result<SavedText, SavedFault>
     ensures found { IfOk result (λ s. spelt_saved s ≡ bytes.now) }
     ensures same { IfOk result (λ s. s ≡ read) }
@@ -195,7 +195,7 @@ fn spelt_so(alloc: Global, read: SavedText, bytes: &[u8]) -> Result<SavedText, S
 }
 
 impl SavedText {
-    /// What is saved of a text whose bytes these are, all of them. Nothing is reserved by a number that they name.
+    /// The saved text whose bytes these are, all of them. Nothing is reserved by a number that they name.
     pub fn decode(alloc: Global, bytes: &[u8]) -> Result<SavedText, SavedFault>
         // Nothing else is read.
         ensures found { IfOk result (λ saved. spelt_saved saved ≡ bytes.now) }

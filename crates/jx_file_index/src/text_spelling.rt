@@ -10,10 +10,10 @@ use crate::name_tables::{NameTable, NameTables};
 use crate::saved_text::SavedText;
 use std::alloc::{AllocError, Global};
 
-/// What the first bytes of tables say: they are some, of version 1.
+/// The first bytes of tables, which say that they are some, of version 1.
 pub(crate) const NAMES_TAG: [u8; 8] = [0x89, 0x6A, 0x78, 0x6E, 0x61, 0x6D, 0x0A, 0x01];
 
-/// What stands in place of a count where a table keeps none.
+/// The number in place of a count where a table keeps none.
 pub(crate) const NONE_KEPT: u32 = u32::MAX;
 
 /// How many keys a table has. More than are counted in four bytes are refused, as when out of memory.
@@ -71,7 +71,7 @@ fn spelt_names(alloc: Global, index: &Index, names: &NameTables) -> Result<Vec<u
 }
 
 impl SavedText {
-    /// Its bytes. Fails only when out of memory.
+    /// The encoding of the saved text. Fails only when out of memory.
     pub fn encode(&self, alloc: Global) -> Result<Vec<u8>, AllocError>
         ensures { IfOk result (λ bytes. bytes.items ≡ spelt_saved self.now) }
     {

@@ -45,7 +45,7 @@ unwanted_name (suc skipped) begun e = None
 unwanted_name zero true e = in_value e
 unwanted_name zero false e = in_front e
 
--- what may stand next in an object
+-- the tokens that may stand next in an object
 abbrev pub begun_in_object : Expect → Type 0
 begun_in_object Colon = Unit {0}
 begun_in_object After = Unit {0}

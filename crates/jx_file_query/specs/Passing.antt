@@ -35,7 +35,7 @@ slot (suc skipped) begun e = 0
 slot zero true e = 1
 slot zero false e = room e
 
--- what may stand next in an array
+-- the tokens that may stand next in an array
 abbrev pub InArray : Expect → Type 0
 InArray Value = Unit {0}
 InArray ArrayFirst = Unit {0}
@@ -72,7 +72,7 @@ IsPassedInArray = (text : List ℕ) (edges : List Edge) (last at depth : ℕ) (p
     → ((place : ℕ) → c.count ≤ place → place < c.count + (sum_of (lexical.lex from at part).marks).commas + slot f.skipped (in_token from) e → element_at edges c.level place ≡ None)
     → IsPassedOver text edges last (lexical.lex from at part) (sum_of (lexical.lex from at part).marks) (in_token from) (in_token to) begun e x f c outer
 
--- what is kept of the open containers follows them
+-- the record that is kept of the open containers follows them
 abbrev pub IsHeldOn : Type 0
 IsHeldOn = (text : List ℕ) (edges : List Edge) (last depth : ℕ) (ms : List Mark) (ends : List ℕ) (f : Finding) (e x : Expect) (hs gs : List Holder)
     → marks.read depth ms (went e hs) ≡ went x gs → Holds f.skipped f.opened hs → Holds (seek_all text edges last ms ends f).skipped (seek_all text edges last ms ends f).opened gs

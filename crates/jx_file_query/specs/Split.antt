@@ -10,7 +10,7 @@ use Rattle.jx_file_query.specs.declared.cutting.Parting.{Parting}
 use Rattle.jx_file_query.specs.declared.split.Split.{Split}
 use Rattle.jx_file_query.specs.Cuts.{Cuts, begun, cut_all, cuts_of}
 
--- what all token starts of the first chunks lead to, so many
+-- the cuts after all token starts of the first chunks, so many
 abbrev pub IsCutAt : Settings → ℕ → List ℕ → Aim → ℕ → Cuts → Type 0
 IsCutAt settings chunk text aim at c = c ≡ cut_all aim (tokens_by settings.mark (take (at * chunk) text)).marks (begun aim.whole)
 

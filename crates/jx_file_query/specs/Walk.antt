@@ -47,7 +47,7 @@ pub record HasCome (settings : Settings) (chunk : ℕ) (text : List ℕ) (pointe
   pub kept_is : w.held ≡ Some kept
   pub held : IsHeldAt settings chunk text w.edges.items w.at kept
 
--- what it holds of the bytes before what it needs, if it holds anything
+-- the search that it keeps of the bytes before those that it needs, if it keeps one
 abbrev pub held_by : Walk → Option Sought
 held_by w = w.held
 

@@ -12,7 +12,7 @@ use jx_file_index::{Entry, Index, digest_of};
 use jx_lex::Span;
 use std::alloc::AllocError;
 
-/// Where the chunk at a place stands in the text, if it has one there.
+/// The span of the chunk at a place in the text, if it has one there.
 #[tactic(auto, using(crate::proofs::Chunkings::none_at))]
 pub fn chunk_at(index: &Index, at: usize) -> Option<Span>
     ensures value { result ≡ chunk_at index.now at }

@@ -1,5 +1,5 @@
-//! What is asked of a text by its saved index, from chunks of it: where JSON Pointers (RFC 6901) lead, and the parts of an array or an
-//! object for so many loaders.
+//! Answers on a text by its saved index, from chunks of it: where JSON Pointers (RFC 6901) lead, and the parts of an array or an object for so many
+//! loaders.
 #![tactic(auto)]
 
 mod among;

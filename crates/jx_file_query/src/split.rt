@@ -65,7 +65,7 @@ impl<'a> Split<'a> {
         ensures index { result.index.now ≡ index.now }
         ensures aim { result.aim ≡ aim }
         ensures come { (settings : Settings) (chunk : ℕ) (text : List ℕ) → IsIndexOf settings chunk text index.now → HasCome settings chunk text result }
-        // Whatever the index, the first chunk that is needed is the one in which the container begins.
+        // For any index, the first chunk that is needed is the one in which the container begins.
         ensures first { needed result ≡ chunk_at index.now (aim.whole.start / index.now.chunk) }
     {
         reader_and_grammar();
@@ -80,7 +80,7 @@ impl<'a> Split<'a> {
         }
     }
 
-    /// Where the bytes stand that are to be given next, or none where no more are needed.
+    /// The span of the bytes that are to be given next, or none where no more are needed.
     pub fn needs(&self) -> Option<Span>
         ensures needed { result ≡ needed self.now }
         ensures some { IfSome result (λ span. span.start < span.end) }
@@ -101,9 +101,9 @@ impl<'a> Split<'a> {
         // Bytes of the text, as far as their digest decides, lead on.
         ensures come { IfOk result (λ told. IfOk told (λ _. (settings : Settings) (chunk : ℕ) (text : List ℕ) → HasCome settings chunk text self.old
             → ((span : Span) → needed self.old ≡ Some span → IsToldApart text span bytes.now) → HasCome settings chunk text self.new)) }
-        // Whatever the index, it goes forward.
+        // For any index, it goes forward.
         ensures nearer { IfOk result (λ told. IfOk told (λ _. (span : Span) → needed self.old ≡ Some span → left self.new < left self.old)) }
-        // What a fault says.
+        // The meaning of a fault.
         ensures changed { IfOk result (λ told. IfErr told (λ fault. (span : Span) → fault ≡ Changed span → (self.new ≡ self.old) × (needed self.old ≡ Some span)
             × ((settings : Settings) (chunk : ℕ) (text : List ℕ) → HasCome settings chunk text self.old → bytes.now ≢ slice_range text span.start span.end))) }
         ensures damaged { IfOk result (λ told. IfErr told (λ fault. fault ≡ Damaged → IsLost self.new × ((settings : Settings) (chunk : ℕ) (text : List ℕ) → HasCome settings chunk text self.old
@@ -181,7 +181,7 @@ impl<'a> Split<'a> {
 }
 
 impl PausedSplit {
-    /// Where the bytes stand that are to be given next, by its index.
+    /// The span of the bytes that are to be given next, by its index.
     pub fn needs(&self, index: &Index) -> Option<Span>
         ensures needed { result ≡ needed_by index.now self.now }
         ensures some { IfSome result (λ span. span.start < span.end) }

@@ -130,7 +130,7 @@ impl<'a, 'p> Walk<'a, 'p> {
         })
     }
 
-    /// Where the bytes stand that are to be given next, or none where all were.
+    /// The span of the bytes that are to be given next, or none where all were.
     pub fn needs(&self) -> Option<Span>
         ensures needed { result ≡ needed self.now }
         ensures some { IfSome result (λ span. span.start < span.end) }
@@ -147,10 +147,10 @@ impl<'a, 'p> Walk<'a, 'p> {
         // Bytes of the text, as far as their digest decides, lead on.
         ensures come { IfOk result (λ told. IfOk told (λ _. (settings : Settings) (chunk : ℕ) (text : List ℕ) (pointers : List (List ℕ)) → HasCome settings chunk text pointers self.old
             → ((span : Span) → needed self.old ≡ Some span → IsToldApart text span bytes.now) → HasCome settings chunk text pointers self.new)) }
-        // Whatever the index, it goes forward.
+        // For any index, it goes forward.
         ensures behind { IfOk result (λ told. IfOk told (λ _. (span next : Span) → needed self.old ≡ Some span → needed self.new ≡ Some next → span.end ≤ next.start)) }
         ensures nearer { IfOk result (λ told. IfOk told (λ _. (span : Span) → needed self.old ≡ Some span → left self.new < left self.old)) }
-        // What a fault says.
+        // The meaning of a fault.
         ensures changed { IfOk result (λ told. IfErr told (λ fault. (span : Span) → fault ≡ Changed span → (self.new ≡ self.old) × (needed self.old ≡ Some span)
             × ((settings : Settings) (chunk : ℕ) (text : List ℕ) (pointers : List (List ℕ)) → HasCome settings chunk text pointers self.old → bytes.now ≢ slice_range text span.start span.end))) }
         ensures damaged { IfOk result (λ told. IfErr told (λ fault. fault ≡ Damaged → IsLost self.new × ((settings : Settings) (chunk : ℕ) (text : List ℕ) (pointers : List (List ℕ)) → HasCome settings chunk text pointers self.old
@@ -250,7 +250,7 @@ impl<'a, 'p> Walk<'a, 'p> {
 }
 
 impl<'p> PausedWalk<'p> {
-    /// Where the bytes stand that are to be given next, by its index.
+    /// The span of the bytes that are to be given next, by its index.
     pub fn needs(&self, index: &Index) -> Option<Span>
         ensures needed { result ≡ needed_by index.now self.now }
         ensures some { IfSome result (λ span. span.start < span.end) }

@@ -1,4 +1,3 @@
 pub mod Answered
 pub mod NamedLines
-pub mod Shown
 pub mod Words

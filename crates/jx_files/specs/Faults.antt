@@ -4,7 +4,7 @@ use Rattle.jx_files.specs.declared.file_fault.FileFault.{FileFault}
 use Rattle.jx_files.specs.declared.file_fault.FileFault.TheVariants.{Folder, Open, Read, Memory, Pieces, NoPointer, PointerOrFile}
 use Rattle.jx_files.specs.declared.reason.Reason.{Reason}
 use Rattle.jx_files.specs.declared.reason.Reason.TheVariants as reason
-use Rattle.jx_files.specs.Naming.{shown}
+use Rattle.jx_words.specs.Showing.{shown}
 
 -- the error numbers of Linux whose reason has a message
 abbrev pub reasons : List (ℕ × Reason)
@@ -27,7 +27,7 @@ fault_head (Read why) = codes "read failed"
 fault_head Memory = codes "out of memory"
 fault_head Pieces = codes "too many pieces"
 fault_head NoPointer = codes "no slash: a FILE stands behind --file"
-fault_head PointerOrFile = codes "names a file: write jx each '' FILE, or jx each POINTER FILE"
+fault_head PointerOrFile = codes "names a file: write '' FILE, or POINTER FILE"
 
 -- the system's reason
 abbrev pub fault_reason : FileFault → Reason

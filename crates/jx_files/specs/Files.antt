@@ -1,4 +1,4 @@
--- What reports on several inputs write, and the messages on their faults.
+-- The output of reports on several inputs, and the messages on their faults.
 use Rattle.std.specs.Prelude.{◌≡◌, ℕ, ◌≤◌, List, [], ◌∷◌, ◌++◌, codes, length, Bool, true, false, Option, Result, Ok, Err}
 use Rattle.std.specs.Io.KnownBytes.{Appends}
 use Rattle.jx_task.specs.declared.command.Command.{Command}
@@ -15,17 +15,18 @@ use Rattle.jx_files.specs.declared.reason.Reason.{Reason}
 use Rattle.jx_files.specs.declared.status.Status.{Status}
 use Rattle.jx_files.specs.declared.status.Status.TheVariants.{Good, Fault}
 use Rattle.jx_files.specs.Faults.{fault_line}
-use Rattle.jx_files.specs.Naming.{named, shown}
+use Rattle.jx_files.specs.Naming.{named}
+use Rattle.jx_words.specs.Showing.{shown}
 use Rattle.jx_files.specs.Status.{greatest, status_of}
 
--- what is written for an input after its name
+-- the bytes that are written for an input after its name
 abbrev pub part : List ℕ → List ℕ → List ℕ
 part word output = named (shown word ++ codes ": ") output
 
 -- how inputs are opened and read
 pub record Ways : Type 1 where
   pub Input : Type 0
-  -- what opening an argument may give
+  -- the results that opening an argument may give
   pub opens : List ℕ → Result Input FileFault → Type 0
   -- why the last read of an input failed
   pub why : Input → Reason
@@ -69,12 +70,12 @@ pub record IsAnsweredAt (ways : Ways) (command : Command) (word : List ℕ) (out
   pub opened : ways.opens word (Ok input)
   pub answered : IsAnsweredOf ways command input output exit
 
--- what is written for one argument, the message on it, and its status
+-- the output for one argument, the message on it, and its status
 pub data IsReportedAt (ways : Ways) (command : Command) (word : List ℕ) : List ℕ → List ℕ → Status → Type 0 where
   answered : {output : List ℕ} {exit : Exit} → IsAnsweredAt ways command word output exit → IsReportedAt ways command word (part word (shown_output command.quiet output)) [] (status_of exit)
   unanswered : {fault : FileFault} → IsFaultAt ways command word fault → IsReportedAt ways command word [] (fault_line word fault) Fault
 
--- what is written for arguments in their order, the messages on them, and the greatest of their statuses
+-- the output for arguments in their order, the messages on them, and the greatest of their statuses
 pub data AreReported (ways : Ways) (command : Command) : List (List ℕ) → List ℕ → List ℕ → Status → Type 0 where
   no_word : AreReported ways command [] [] [] Good
   one_more : {words : List (List ℕ)} {output told : List ℕ} {status : Status} → AreReported ways command words output told status

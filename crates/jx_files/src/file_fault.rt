@@ -34,9 +34,7 @@ impl FileFault {
             FileFault::Memory => "out of memory",
             FileFault::Pieces => "too many pieces",
             FileFault::NoPointer => "no slash: a FILE stands behind --file",
-            FileFault::PointerOrFile => {
-                "names a file: write jx each '' FILE, or jx each POINTER FILE"
-            }
+            FileFault::PointerOrFile => "names a file: write '' FILE, or POINTER FILE",
         }
     }
 

@@ -6,15 +6,13 @@ mod naming;
 mod opener;
 mod reason;
 mod reports;
-mod showing;
 mod status;
 mod telling;
 
 pub use file_fault::FileFault;
-pub use naming::named_lines;
+pub use naming::{named_lines, write_named};
 pub use opener::Opener;
 pub use reason::Reason;
 pub use reports::report_on_each;
-pub use showing::shown_name;
 pub use status::Status;
 pub use telling::tell;

@@ -11,7 +11,7 @@ pub trait Opener<S: Source, F: SharedAt<Fault = Reason>> {
     ghost use Rattle.jx_files.specs.declared.file_fault.FileFault.{FileFault};
     ghost use Rattle.jx_files.specs.declared.reason.Reason.{Reason};
 
-    /// What opening an argument may give.
+    /// The results that opening an argument may give.
     ghost opens: { Self → List ℕ → Result S FileFault → Type 0 };
 
     /// Why the last read of an input failed, of one that has failed.

@@ -4,8 +4,8 @@ ghost use Rattle.std.specs.Io.KnownBytes.{Appends};
 ghost use Rattle.jx_files.specs.Faults.{fault_head, fault_line, fault_reason, fault_tail};
 
 use crate::file_fault::FileFault;
-use crate::showing::write_shown;
 use jx_ends::{ReportFault, Sink, write_whole};
+use jx_words::write_shown;
 
 /// Writes the words of a fault.
 fn write_words<E: Sink>(errors: &mut E, fault: FileFault) -> Result<(), ReportFault>

@@ -1,7 +1,7 @@
 -- What is held of a whole text that is read by itself.
-use Rattle.std.proofs.Common.{◌≡◌, ℕ, ◌+◌, List, [], ◌∷◌, ◌++◌, map, refl, ap, subst, ◌∙◌, zero-add, Option}
+use Rattle.std.proofs.Common.{◌≡◌, ℕ, List, [], ◌∷◌, ◌++◌, refl, ap, subst, ◌∙◌, zero-add, Option}
 use Rattle.jx_lex.specs.declared.alphabet.mark.Mark.{Mark}
-use Rattle.jx_run.specs.Telling.{moved_ends, moved_mark, moved_marks}
+use Rattle.jx_run.specs.Telling.{moved_ends, moved_marks}
 use Rattle.jx_index.specs.declared.finder.State.{State}
 use Rattle.jx_index.specs.declared.trie.Edge.{Edge}
 use Rattle.jx_find.specs.declared.pointer_trie.PointerTrie.{PointerTrie}

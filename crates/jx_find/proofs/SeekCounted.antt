@@ -1,6 +1,8 @@
 -- What is sought of tokens of which only the counts are known.
-use Rattle.std.proofs.Common.{◌≡◌, ℕ, zero, suc, ◌+◌, ◌-◌, ◌<◌, ◌≤◌, Bool, true, false, cond, List, [], ◌∷◌, ◌++◌, length, reverse, refl, sym, ap, subst, ◌∙◌, append_assoc, arith, Option, None, Some}
-use Rattle.std.specs.Prelude.{◌^◌, fold, is_some}
+use Rattle.std.proofs.Common.{◌≡◌, ◌⊎◌, inl, inr, ℕ, suc, ◌+◌, ◌-◌, ◌<◌, ◌≤◌, Bool, true, false, cond, List, [], ◌∷◌, ◌++◌, length, reverse, refl, sym, ap, subst, ◌∙◌, append_assoc, arith, Option, None, Some}
+use Rattle.std.specs.Prelude.{◌^◌, ◌==◌, is_some}
+use Rattle.std.proofs.lemmas.Bool.{cases_lt}
+use Rattle.std.proofs.lemmas.Bool.Decides.{nat_tests}
 use Rattle.jx_lex.specs.declared.alphabet.mark.Mark.{Mark}
 use Rattle.jx_lex.specs.declared.alphabet.mark.MarkKind.{MarkKind}
 use Rattle.jx_lex.specs.declared.alphabet.mark.MarkKind.TheVariants as mark
@@ -9,16 +11,17 @@ use Rattle.jx_lex.specs.declared.kind.Kind.TheVariants as kind
 use Rattle.jx_summary.specs.declared.span.Span.{Span}
 use Rattle.jx_run.specs.Tree.{span}
 use Rattle.jx_lex.specs.declared.scanner.counts.TokenCounts.{TokenCounts}
-use Rattle.jx_lex.specs.Counts.{HasCounts, number_of, opens, closes}
+use Rattle.jx_lex.specs.Counts.{HasCounts, Levels, at_start, closes, closing, levels_of, number_of, on_level, opening, opens, seen_there}
 use Rattle.jx_lex.specs.Seen.{has_end}
 use Rattle.jx_lex.proofs.Counts.{number_of-more}
+use Rattle.jx_lex.proofs.Levels.{closing_below, levels-go, levels_from, one_falls, one_goes, one_stays, opening_below, seen_below}
 use Rattle.jx_run.specs.Telling.{moved_ends, moved_marks}
 use Rattle.jx_index.specs.declared.finder.Cursor.{Cursor}
 use Rattle.jx_index.specs.declared.finder.Met.{Met}
 use Rattle.jx_index.specs.declared.seeker.Seeker.{Seeker}
 use Rattle.jx_index.specs.declared.trie.Edge.{Edge}
 use Rattle.jx_index.specs.inside.Building.{next_end}
-use Rattle.jx_index.specs.inside.Finding.{Finding, leaf_at, nothing_met, skip_over}
+use Rattle.jx_index.specs.inside.Finding.{Finding, begin_at, leaf_at, nothing_met, skip_over}
 use Rattle.jx_index.specs.inside.Found.{finding}
 use Rattle.jx_index.specs.inside.Seeking.{IsReady}
 use Rattle.jx_index.specs.inside.Trie.{IsNextFrom, IsNextIn, IsTrie, element_at, first_open, seek_all, sought}
@@ -33,39 +36,36 @@ use Rattle.jx_find.proofs.Soughts.{seek_one, skipped_in}
 abbrev one_if : Bool → ℕ
 one_if b = cond b 1 0
 
--- ---- one token start after another, each of which changes a number by its kind
+-- ---- one token start after another, each of which moves the level
 
-module _ (text : List ℕ) (edges : List Edge) (last : ℕ) (here : ℕ → Finding) (next : MarkKind → ℕ → ℕ) (I : List Mark → ℕ → Type 0)
-    (step : (m : Mark) (ms : List Mark) (n end : ℕ) → I (m ∷ ms) n → (sought text edges m.kind m.at end (here n) ≡ here (next m.kind n)) × I ms (next m.kind n)) (more : List Mark) (others : List ℕ) where
-  stepped : ℕ → List Mark → ℕ
-  stepped n ms = fold (λ n m. next m.kind n) n ms
-
+module _ (text : List ℕ) (edges : List Edge) (last : ℕ) (here : Levels → Finding) (I : List Mark → Levels → Type 0)
+    (step : (m : Mark) (ms : List Mark) (l : Levels) (end : ℕ) → I (m ∷ ms) l → (sought text edges m.kind m.at end (here l) ≡ here (on_level m.kind l)) × I ms (on_level m.kind l)) (more : List Mark) (others : List ℕ) where
   -- the rest of the reading
-  abbrev Seeks : List Mark → List ℕ → ℕ → ℕ → Type 0
-  Seeks ms es n end = seek_all text edges last (ms ++ more) (es ++ others) (here n) ≡ seek_all text edges last more others (here end)
+  abbrev Seeks : List Mark → List ℕ → Levels → Levels → Type 0
+  Seeks ms es l end = seek_all text edges last (ms ++ more) (es ++ others) (here l) ≡ seek_all text edges last more others (here end)
 
-  by_end : (m : Mark) (ms : List Mark) (n end : ℕ) → I (m ∷ ms) n → (t : Bool) → has_end m.kind ≡ t → (es : List ℕ) → length es ≡ one_if (has_end m.kind) + number_of has_end ms
-      → ((es : List ℕ) → length es ≡ number_of has_end ms → Seeks ms es (next m.kind n) end) → Seeks (m ∷ ms) es n end
-  by_end m ms n end i true h [] e rest = let t : one_if (has_end m.kind) ≡ 1 = ap one_if h in absurd (omega (arith, e, t))
-  by_end m ms n end i true h (x ∷ es) e rest =
+  by_end : (m : Mark) (ms : List Mark) (l end : Levels) → I (m ∷ ms) l → (t : Bool) → has_end m.kind ≡ t → (es : List ℕ) → length es ≡ one_if (has_end m.kind) + number_of has_end ms
+      → ((es : List ℕ) → length es ≡ number_of has_end ms → Seeks ms es (on_level m.kind l) end) → Seeks (m ∷ ms) es l end
+  by_end m ms l end i true h [] e rest = let t : one_if (has_end m.kind) ≡ 1 = ap one_if h in absurd (omega (arith, e, t))
+  by_end m ms l end i true h (x ∷ es) e rest =
       let t : one_if (has_end m.kind) ≡ 1 = ap one_if h in
-      seek_one text edges last m (ms ++ more) ((x ∷ es) ++ others) (here n)
-      ∙ ap (λ (ends : List ℕ). seek_all text edges last (ms ++ more) ends (sought text edges m.kind m.at (next_end last ((x ∷ es) ++ others)) (here n))) (ends_kept m.kind true ((x ∷ es) ++ others) h)
-      ∙ ap (seek_all text edges last (ms ++ more) (es ++ others)) (step m ms n (next_end last ((x ∷ es) ++ others)) i).0
+      seek_one text edges last m (ms ++ more) ((x ∷ es) ++ others) (here l)
+      ∙ ap (λ (ends : List ℕ). seek_all text edges last (ms ++ more) ends (sought text edges m.kind m.at (next_end last ((x ∷ es) ++ others)) (here l))) (ends_kept m.kind true ((x ∷ es) ++ others) h)
+      ∙ ap (seek_all text edges last (ms ++ more) (es ++ others)) (step m ms l (next_end last ((x ∷ es) ++ others)) i).0
       ∙ rest es (omega (arith, e, t))
-  by_end m ms n end i false h es e rest =
+  by_end m ms l end i false h es e rest =
       let t : one_if (has_end m.kind) ≡ 0 = ap one_if h in
-      seek_one text edges last m (ms ++ more) (es ++ others) (here n)
-      ∙ ap (λ (ends : List ℕ). seek_all text edges last (ms ++ more) ends (sought text edges m.kind m.at (next_end last (es ++ others)) (here n))) (ends_kept m.kind false (es ++ others) h)
-      ∙ ap (seek_all text edges last (ms ++ more) (es ++ others)) (step m ms n (next_end last (es ++ others)) i).0
+      seek_one text edges last m (ms ++ more) (es ++ others) (here l)
+      ∙ ap (λ (ends : List ℕ). seek_all text edges last (ms ++ more) ends (sought text edges m.kind m.at (next_end last (es ++ others)) (here l))) (ends_kept m.kind false (es ++ others) h)
+      ∙ ap (seek_all text edges last (ms ++ more) (es ++ others)) (step m ms l (next_end last (es ++ others)) i).0
       ∙ rest es (omega (arith, e, t))
 
-  pub seek_many : (ms : List Mark) (es : List ℕ) (n : ℕ) → I ms n → length es ≡ number_of has_end ms → Seeks ms es n (fold (λ n m. next m.kind n) n ms)
-  seek_many [] [] n i e = refl
-  seek_many [] (x ∷ es) n i e = absurd (omega (arith, e))
-  seek_many (m ∷ ms) es n i e =
-      by_end m ms n (fold (λ n m. next m.kind n) (next m.kind n) ms) i (has_end m.kind) refl es (e ∙ number_of-more has_end m ms)
-      (λ es e. seek_many ms es (next m.kind n) (step m ms n 0 i).1 e)
+  pub seek_many : (ms : List Mark) (es : List ℕ) (l : Levels) → I ms l → length es ≡ number_of has_end ms → Seeks ms es l (levels_from l ms)
+  seek_many [] [] l i e = refl
+  seek_many [] (x ∷ es) l i e = absurd (omega (arith, e))
+  seek_many (m ∷ ms) es l i e =
+      by_end m ms l (levels_from (on_level m.kind l) ms) i (has_end m.kind) refl es (e ∙ number_of-more has_end m ms)
+      (λ es e. seek_many ms es (on_level m.kind l) (step m ms l 0 i).1 e)
 
 -- ---- where something is skipped
 
@@ -85,97 +85,184 @@ skip_more mark.True n = omega arith
 skip_more mark.False n = omega arith
 skip_more mark.Null n = omega arith
 
-skips_all : (ms : List Mark) (n : ℕ) → number_of closes ms < n → fold (λ n (m : Mark). skip_by m.kind n) n ms ≡ n + number_of opens ms - number_of closes ms
-skips_all [] n few = omega arith
-skips_all (m ∷ ms) n few =
-    let c = number_of-more closes m ms in
-    let o = number_of-more opens m ms in
-    let rest = skips_all ms (skip_by m.kind n) (omega (arith, c, few)) in
-    rest ∙ omega (arith, c, o, few)
+-- how many are skipped at a level, where so many are at the start
+abbrev skipped_at : ℕ → Levels → ℕ
+skipped_at s l = s + l.above - l.lowest
 
-module _ (text : List ℕ) (edges : List Edge) (f : Finding) where
-  abbrev skipping : ℕ → Finding
-  skipping n = record f { skipped = n }
+-- one token start more, where some are
+skip_on : (k : MarkKind) (s : ℕ) (l : Levels) → 0 < skipped_at s l → (on_level k l).lowest ≤ s → skip_over k (skipped_at s l - 1) ≡ skipped_at s (on_level k l)
+skip_on k s l some within =
+    let g = one_goes k l in
+    let moves = g.moves in
+    let falls = g.falls in
+    let next = skip_more k (skipped_at s l - 1) in
+    next ∙ omega (arith, moves, falls, some, within)
 
-  skip_step : (m : Mark) (ms : List Mark) (n end : ℕ) → number_of closes (m ∷ ms) < n
-      → (sought text edges m.kind m.at end (skipping n) ≡ skipping (skip_by m.kind n)) × (number_of closes ms < skip_by m.kind n)
-  skip_step m ms zero end few = absurd (omega (arith, few))
-  skip_step m ms (suc n) end few =
-      let c = number_of-more closes m ms in
-      (skipped_in text edges m.kind m.at end (skipping (suc n)) n refl ∙ ap skipping (skip_more m.kind n), omega (arith, c, few))
+module _ (text : List ℕ) (edges : List Edge) (f : Finding) (s : ℕ) where
+  abbrev skipping : Levels → Finding
+  skipping l = record f { skipped = skipped_at s l }
 
-  pub seek_skipped : (last : ℕ) (ms more : List Mark) (es others : List ℕ) → number_of closes ms < f.skipped → length es ≡ number_of has_end ms
-      → seek_all text edges last (ms ++ more) (es ++ others) f ≡ seek_all text edges last more others (skipping (f.skipped + number_of opens ms - number_of closes ms))
-  seek_skipped last ms more es others few ended =
-      seek_many text edges last skipping skip_by (λ ms n. number_of closes ms < n) skip_step more others ms es f.skipped few ended
-      ∙ ap (λ (n : ℕ). seek_all text edges last more others (skipping n)) (skips_all ms f.skipped few)
-
--- ---- in an array
-
-abbrev count_by_one : MarkKind → ℕ → ℕ
-count_by_one k n = n + one_if (has_end k)
-
-counts_all : (ms : List Mark) (n : ℕ) → fold (λ n (m : Mark). count_by_one m.kind n) n ms ≡ n + number_of has_end ms
-counts_all [] n = omega arith
-counts_all (m ∷ ms) n =
-    let e = number_of-more has_end m ms in
-    let rest = counts_all ms (count_by_one m.kind n) in
-    rest ∙ omega (arith, e)
-
--- no bracket, and children from a place on, so many at most
-pub record IsFlat (low limit : ℕ) (ms : List Mark) (n : ℕ) : Type 0 where
-  pub opening : number_of opens ms ≡ 0
-  pub closing : number_of closes ms ≡ 0
-  pub from : low ≤ n
-  pub within : n + number_of has_end ms ≤ limit
-
-module _ (text : List ℕ) (edges : List Edge) (met : List Met) (level : ℕ) (outer : List Cursor) (low limit : ℕ)
-    (none : (place : ℕ) → low ≤ place → place < limit → element_at edges level place ≡ None) where
-  abbrev along : ℕ → Finding
-  along n = record { met = met; opened = record { level = level; is_object = false; count = n } ∷ outer; skipped = 0; name = None }
-
-  abbrev Steps : MarkKind → ℕ → ℕ → ℕ → Type 0
-  Steps k at n end = sought text edges k at end (along n) ≡ along (count_by_one k n)
-
-  leaf : (k : Kind) (s : Span) (n : ℕ) → low ≤ n → n < limit → leaf_at (element_at edges level n) k s (along n) ≡ along (n + 1)
-  leaf k s n from lt =
-      let e : suc n ≡ n + 1 = omega arith in
-      ap (λ (o : Option ℕ). leaf_at o k s (along n)) (none n from lt) ∙ ap along e
-
-  still : (n : ℕ) → along n ≡ along (n + 0)
-  still n = let e : n ≡ n + 0 = omega arith in ap along e
-
-  one_along : (k : MarkKind) (at n end : ℕ) → one_if (opens k) ≡ 0 → one_if (closes k) ≡ 0 → low ≤ n → n + one_if (has_end k) ≤ limit → Steps k at n end
-  one_along mark.OpenArray at n end o c from le = absurd (omega (arith, o))
-  one_along mark.OpenObject at n end o c from le = absurd (omega (arith, o))
-  one_along mark.CloseArray at n end o c from le = absurd (omega (arith, c))
-  one_along mark.CloseObject at n end o c from le = absurd (omega (arith, c))
-  one_along mark.Colon at n end o c from le = still n
-  one_along mark.Comma at n end o c from le = still n
-  one_along mark.String at n end o c from le = leaf kind.String (span at end) n from (omega (arith, le))
-  one_along mark.Number at n end o c from le = leaf kind.Number (span at end) n from (omega (arith, le))
-  one_along mark.True at n end o c from le = leaf kind.True (span at end) n from (omega (arith, le))
-  one_along mark.False at n end o c from le = leaf kind.False (span at end) n from (omega (arith, le))
-  one_along mark.Null at n end o c from le = leaf kind.Null (span at end) n from (omega (arith, le))
-
-  flat_step : (m : Mark) (ms : List Mark) (n end : ℕ) → IsFlat low limit (m ∷ ms) n → Steps m.kind m.at n end × IsFlat low limit ms (count_by_one m.kind n)
-  flat_step m ms n end flat =
-      let o = number_of-more opens m ms in
-      let c = number_of-more closes m ms in
-      let h = number_of-more has_end m ms in
-      let fo = flat.opening in
-      let fc = flat.closing in
-      let ff = flat.from in
-      let fw = flat.within in (
-        one_along m.kind m.at n end (omega (arith, o, fo)) (omega (arith, c, fc)) ff (omega (arith, h, fw)),
-        record { opening = omega (arith, o, fo); closing = omega (arith, c, fc); from = omega (arith, ff); within = omega (arith, h, fw) },
+  skip_step : (m : Mark) (ms : List Mark) (l : Levels) (end : ℕ) → (levels_from l (m ∷ ms)).lowest < s
+      → (sought text edges m.kind m.at end (skipping l) ≡ skipping (on_level m.kind l)) × ((levels_from (on_level m.kind l) ms).lowest < s)
+  skip_step m ms l end few =
+      let here = (one_goes m.kind l).falls in
+      let rest = (levels-go (on_level m.kind l) ms).falls in
+      let some : 0 < skipped_at s l = omega (arith, here, rest, few) in (
+        skipped_in text edges m.kind m.at end (skipping l) (skipped_at s l - 1) (omega (arith, some))
+            ∙ ap (λ (n : ℕ). record f { skipped = n }) (skip_on m.kind s l some (omega (arith, rest, few))),
+        few,
       )
 
-  pub seek_along : (last n : ℕ) (ms more : List Mark) (es others : List ℕ) → IsFlat low limit ms n → length es ≡ number_of has_end ms
-      → seek_all text edges last (ms ++ more) (es ++ others) (along n) ≡ seek_all text edges last more others (along (n + number_of has_end ms))
-  seek_along last n ms more es others flat ended =
-      seek_many text edges last along count_by_one (IsFlat low limit) flat_step more others ms es n flat ended
-      ∙ ap (λ (n : ℕ). seek_all text edges last more others (along n)) (counts_all ms n)
+  pub seek_skipped : (last : ℕ) (ms more : List Mark) (es others : List ℕ) → (levels_of ms).lowest < s → length es ≡ number_of has_end ms
+      → seek_all text edges last (ms ++ more) (es ++ others) (skipping at_start) ≡ seek_all text edges last more others (skipping (levels_of ms))
+  seek_skipped last ms more es others few ended =
+      seek_many text edges last skipping (λ ms l. (levels_from l ms).lowest < s) skip_step more others ms es at_start few ended
+
+-- ---- in an array, and in what is skipped of it
+
+-- how many children more it has at a level, where so many containers are skipped at the start
+abbrev children_at : ℕ → Levels → ℕ
+children_at s l = cond (l.lowest == s) l.values 0
+
+children_there : (s : ℕ) (l : Levels) → l.lowest ≡ s → children_at s l ≡ l.values
+children_there s l e = let there : (l.lowest == s) ≡ true = grind (arith, nat_tests) in ap (λ (b : Bool). cond b l.values 0) there
+
+children_above : (s : ℕ) (l : Levels) → l.lowest < s → children_at s l ≡ 0
+children_above s l lt = let above : (l.lowest == s) ≡ false = grind (arith, nat_tests) in ap (λ (b : Bool). cond b l.values 0) above
+
+same_both : (b : Bool) (n : ℕ) → cond b n n ≡ n
+same_both true n = refl
+same_both false n = refl
+
+-- what is skipped has no child of the array
+children_kept : (k : MarkKind) (s : ℕ) (l : Levels) → 0 < skipped_at s l → (on_level k l).lowest ≤ s → children_at s l ≡ children_at s (on_level k l)
+children_kept k s l some within = by_order (cases_lt l.lowest s) (cases_lt (on_level k l).lowest s)
+  where
+    falls : l.lowest ≤ (on_level k l).lowest
+    falls = (one_goes k l).falls
+
+    by_order : (l.lowest < s) ⊎ (s ≤ l.lowest) → ((on_level k l).lowest < s) ⊎ (s ≤ (on_level k l).lowest) → children_at s l ≡ children_at s (on_level k l)
+    by_order (inl lt) (inl less) = children_above s l lt ∙ sym (children_above s (on_level k l) less)
+    by_order (inl lt) (inr le) = children_above s l lt ∙ sym (children_there s (on_level k l) (omega (arith, le, within)) ∙ one_falls k l (omega (arith, lt, le)))
+    by_order (inr le) o =
+        let f = falls in
+        children_there s l (omega (arith, le, f, within))
+        ∙ sym (children_there s (on_level k l) (omega (arith, le, f, within)) ∙ (one_stays k l (omega (arith, some, le, f, within))).values)
+
+-- the tokens that are left fall no lower than the array, and no child of it is at the limit
+pub record IsWithin (s low limit : ℕ) (ms : List Mark) (l : Levels) : Type 0 where
+  pub lowest : (levels_from l ms).lowest ≤ s
+  pub values : (levels_from l ms).lowest ≡ s → low + (levels_from l ms).values ≤ limit
+
+module _ (text : List ℕ) (edges : List Edge) (met : List Met) (level : ℕ) (outer : List Cursor) (s low limit : ℕ)
+    (none : (place : ℕ) → low ≤ place → place < limit → element_at edges level place ≡ None) where
+  -- so many children of the array were met, and so many containers are skipped in the last one
+  abbrev met_so_far : ℕ → ℕ → Finding
+  met_so_far n skipped = record { met = met; opened = record { level = level; is_object = false; count = n } ∷ outer; skipped = skipped; name = None }
+
+  abbrev along : Levels → Finding
+  along l = met_so_far (low + children_at s l) (skipped_at s l)
+
+  leaf : (k : Kind) (sp : Span) (n : ℕ) → low ≤ n → n < limit → leaf_at (element_at edges level n) k sp (met_so_far n 0) ≡ met_so_far (n + 1) 0
+  leaf k sp n from lt =
+      let e : suc n ≡ n + 1 = omega arith in
+      ap (λ (o : Option ℕ). leaf_at o k sp (met_so_far n 0)) (none n from lt) ∙ ap (λ (m : ℕ). met_so_far m 0) e
+
+  begun : (k : Kind) (is_object : Bool) (at n : ℕ) → low ≤ n → n < limit → begin_at (element_at edges level n) k is_object at (met_so_far n 0) ≡ met_so_far (n + 1) 1
+  begun k is_object at n from lt =
+      let e : suc n ≡ n + 1 = omega arith in
+      ap (λ (o : Option ℕ). begin_at o k is_object at (met_so_far n 0)) (none n from lt) ∙ ap (λ (m : ℕ). met_so_far m 1) e
+
+  -- what is met at a level of the array
+  arrives : (l : Levels) (n skipped : ℕ) → l.lowest ≡ s → n ≡ low + l.values → skipped ≡ l.above → met_so_far n skipped ≡ along l
+  arrives l n skipped at_level n_is skipped_is =
+      let c = children_there s l at_level in
+      let e : n ≡ low + children_at s l = omega (arith, n_is, c) in
+      let q : skipped ≡ skipped_at s l = omega (arith, skipped_is, at_level) in
+      (λ i. met_so_far (e i) (q i))
+
+  -- at the level of the array
+  module _ (l : Levels) (at_level : l.lowest ≡ s) (flat : l.above ≡ 0) where
+    abbrev Met_by : MarkKind → Type 0
+    Met_by k = (at end : ℕ) → (on_level k l).lowest ≤ s → low + (on_level k l).values ≤ limit → sought text edges k at end (met_so_far (low + l.values) 0) ≡ along (on_level k l)
+
+    more_seen : (c v : ℕ) (n : ℕ) → n ≡ low + l.values + v → met_so_far n 0 ≡ along (seen_there c v l)
+    more_seen c v n is =
+        let e = seen_below c v l flat in
+        let w = ap (λ (x : Levels). x.lowest) e in
+        let a = ap (λ (x : Levels). x.above) e in
+        let u = ap (λ (x : Levels). x.values) e in
+        arrives (seen_there c v l) n 0 (w ∙ at_level) (omega (arith, is, u)) (omega (arith, a, flat))
+
+    value_met : (k : Kind) (sp : Span) → low + (seen_there 0 1 l).values ≤ limit → leaf_at (element_at edges level (low + l.values)) k sp (met_so_far (low + l.values) 0) ≡ along (seen_there 0 1 l)
+    value_met k sp few =
+        let u = ap (λ (x : Levels). x.values) (seen_below 0 1 l flat) in
+        leaf k sp (low + l.values) (omega arith) (omega (arith, few, u)) ∙ more_seen 0 1 (low + l.values + 1) refl
+
+    container_met : (k : Kind) (is_object : Bool) (at : ℕ) → low + (opening l).values ≤ limit
+        → begin_at (element_at edges level (low + l.values)) k is_object at (met_so_far (low + l.values) 0) ≡ along (opening l)
+    container_met k is_object at few =
+        let e = opening_below l flat in
+        let w = ap (λ (x : Levels). x.lowest) e in
+        let a = ap (λ (x : Levels). x.above) e in
+        let u = ap (λ (x : Levels). x.values) e in
+        begun k is_object at (low + l.values) (omega arith) (omega (arith, few, u))
+        ∙ arrives (opening l) (low + l.values + 1) 1 (w ∙ at_level) (omega (arith, u)) (omega (arith, a, flat))
+
+    too_low : (closing l).lowest ≤ s → ⊥
+    too_low within = let w = ap (λ (x : Levels). x.lowest) (closing_below l flat) in omega (arith, w, at_level, within)
+
+    one_met : (k : MarkKind) → Met_by k
+    one_met mark.OpenArray at end within few = container_met kind.Array false at few
+    one_met mark.OpenObject at end within few = container_met kind.Object true at few
+    one_met mark.CloseArray at end within few = absurd (too_low within)
+    one_met mark.CloseObject at end within few = absurd (too_low within)
+    one_met mark.Colon at end within few = arrives l (low + l.values) 0 at_level refl (sym flat)
+    one_met mark.Comma at end within few = more_seen 1 0 (low + l.values) (omega arith)
+    one_met mark.String at end within few = value_met kind.String (span at end) few
+    one_met mark.Number at end within few = value_met kind.Number (span at end) few
+    one_met mark.True at end within few = value_met kind.True (span at end) few
+    one_met mark.False at end within few = value_met kind.False (span at end) few
+    one_met mark.Null at end within few = value_met kind.Null (span at end) few
+
+  one_along : (k : MarkKind) (at end : ℕ) (l : Levels) → (on_level k l).lowest ≤ s → ((on_level k l).lowest ≡ s → low + (on_level k l).values ≤ limit) → sought text edges k at end (along l) ≡ along (on_level k l)
+  one_along k at end l within few = by_place (cases_lt 0 (skipped_at s l))
+    where
+      falls : l.lowest ≤ (on_level k l).lowest
+      falls = (one_goes k l).falls
+
+      by_place : (0 < skipped_at s l) ⊎ (skipped_at s l ≤ 0) → sought text edges k at end (along l) ≡ along (on_level k l)
+      by_place (inl some) =
+          let c = children_kept k s l some within in
+          let q = skip_on k s l some within in
+          skipped_in text edges k at end (along l) (skipped_at s l - 1) (omega (arith, some)) ∙ (λ i. met_so_far (low + c i) (q i))
+      by_place (inr none) =
+          let f = falls in
+          let at_level : l.lowest ≡ s = omega (arith, none, f, within) in
+          let flat : l.above ≡ 0 = omega (arith, none, f, within) in
+          ap (λ (g : Finding). sought text edges k at end g) (sym (arrives l (low + l.values) 0 at_level refl (sym flat)))
+          ∙ one_met l at_level flat k at end within (few (omega (arith, f, within, at_level)))
+
+  along_step : (m : Mark) (ms : List Mark) (l : Levels) (end : ℕ) → IsWithin s low limit (m ∷ ms) l
+      → (sought text edges m.kind m.at end (along l) ≡ along (on_level m.kind l)) × IsWithin s low limit ms (on_level m.kind l)
+  along_step m ms l end i =
+      let rest = levels-go (on_level m.kind l) ms in
+      let falls = rest.falls in
+      let lowest = i.lowest in (
+        one_along m.kind m.at end l (omega (arith, falls, lowest))
+            (λ e. let more = rest.more (omega (arith, e, falls, lowest)) in let values = i.values (omega (arith, e, falls, lowest)) in omega (arith, more, values)),
+        record { lowest = i.lowest; values = i.values },
+      )
+
+  pub seek_along : (last : ℕ) (ms more : List Mark) (es others : List ℕ) → (levels_of ms).lowest ≡ s → low + (levels_of ms).values ≤ limit → length es ≡ number_of has_end ms
+      → seek_all text edges last (ms ++ more) (es ++ others) (met_so_far low s) ≡ seek_all text edges last more others (met_so_far (low + (levels_of ms).values) (levels_of ms).above)
+  seek_along last ms more es others at_level few ended =
+      let zero = same_both (0 == s) 0 in
+      let n : low ≡ low + children_at s at_start = omega (arith, zero) in
+      let q : s ≡ skipped_at s at_start = omega arith in
+      (λ i. seek_all text edges last (ms ++ more) (es ++ others) (met_so_far (n i) (q i)))
+      ∙ seek_many text edges last along (IsWithin s low limit) along_step more others ms es at_start (record { lowest = omega (arith, at_level); values = λ e. few }) ended
+      ∙ ap (seek_all text edges last more others) (sym (arrives (levels_of ms) (low + (levels_of ms).values) (levels_of ms).above at_level refl refl))
 
 -- ---- a seeker
 
@@ -185,14 +272,25 @@ pub record Passes (edges : List Edge) (counts : TokenCounts) (k next : Seeker) :
       → seek_all text edges last (ms ++ more) (es ++ others) (finding k.state) ≡ seek_all text edges last more others (finding next.state)
   pub ready : IsTrie edges → IsReady edges k → IsReady edges next
 
-pub skips : (edges : List Edge) (counts : TokenCounts) (k : Seeker) (more : ℕ) → counts.closing < k.state.skipped → more ≡ k.state.skipped + counts.opening - counts.closing
+-- how many are skipped after tokens that have these counts, where so many are before them
+above_by : (counts : TokenCounts) (ms : List Mark) (es : List ℕ) → HasCounts ms es counts → (levels_of ms).above + counts.closing ≡ (levels_of ms).lowest + counts.opening
+above_by counts ms es h =
+    let moves = (levels-go at_start ms).moves in
+    let o = h.opening in
+    let c = h.closing in
+    omega (arith, moves, o, c)
+
+pub skips : (edges : List Edge) (counts : TokenCounts) (k : Seeker) (more : ℕ) → counts.lowest < k.state.skipped → more + counts.closing ≡ k.state.skipped + counts.opening
     → Passes edges counts k (record k { state = record k.state { skipped = more } })
 skips edges counts k more few is = record {
   seeks = λ trie ready text last ms rest es others h.
-      let o = h.opening in
-      let c = h.closing in
-      let n : k.state.skipped + number_of opens ms - number_of closes ms ≡ more = omega (arith, o, c, is) in
-      seek_skipped text edges (finding k.state) last ms rest es others (omega (arith, c, few)) (ended_by ms es counts h)
+      let above = above_by counts ms es h in
+      let low = h.lowest in
+      let s = k.state.skipped in
+      let start : s ≡ skipped_at s at_start = omega arith in
+      let n : skipped_at s (levels_of ms) ≡ more = omega (arith, above, low, is, few) in
+      ap (λ (n : ℕ). seek_all text edges last (ms ++ rest) (es ++ others) (record (finding k.state) { skipped = n })) start
+      ∙ seek_skipped text edges (finding k.state) s last ms rest es others (omega (arith, low, few)) (ended_by ms es counts h)
       ∙ ap (λ (n : ℕ). seek_all text edges last rest others (record (finding k.state) { skipped = n })) n;
   ready = λ trie ready. ready;
 }
@@ -217,8 +315,8 @@ none_counted count (x ∷ xs) e = absurd (omega (arith, e))
 abbrev array_of : Cursor → ℕ → Cursor
 array_of top n = record { level = top.level; is_object = false; count = n }
 
-abbrev in_array : Seeker → Cursor → List Cursor → ℕ → Finding
-in_array k top outer n = record { met = k.state.met.items; opened = array_of top n ∷ outer; skipped = 0; name = None }
+abbrev in_array : Seeker → Cursor → List Cursor → ℕ → ℕ → Finding
+in_array k top outer n skipped = record { met = k.state.met.items; opened = array_of top n ∷ outer; skipped = skipped; name = None }
 
 as_array : (top : Cursor) (n : ℕ) → top.is_object ≡ false → record top { count = n } ≡ array_of top n
 as_array top n e = ap (λ (b : Bool). record { level = top.level; is_object = b; count = n }) e
@@ -232,21 +330,21 @@ module _ (edges : List Edge) (trie : IsTrie edges) (top : Cursor) (next count : 
   unwanted place from lt = sym (element_later edges trie top.level place (omega (arith, fits, lt)) next (fresh_from place from) (omega (arith, within, lt)))
 
 module _ (edges : List Edge) (counts : TokenCounts) (k next : Seeker) (count : ℕ) (fits : count < 2 ^ 64) (on : CountsOn k counts count)
-    (same_next : next.next ≡ k.next) (same_met : next.state.met ≡ k.state.met) (same_skipped : next.state.skipped ≡ k.state.skipped) (same_name : next.state.name ≡ k.state.name)
+    (skipped : next.state.skipped + counts.closing ≡ k.state.skipped + counts.opening)
+    (same_next : next.next ≡ k.next) (same_met : next.state.met ≡ k.state.met) (same_name : next.state.name ≡ k.state.name)
     (opened : reverse next.state.opened.items ≡ with_count count (reverse k.state.opened.items)) where
   opened_is : reverse next.state.opened.items ≡ record on.top { count = count } ∷ on.outer
   opened_is = opened ∙ ap (with_count count) on.opened
 
-  was : finding k.state ≡ in_array k on.top on.outer on.top.count
+  was : finding k.state ≡ in_array k on.top on.outer on.top.count k.state.skipped
   was = let e : reverse k.state.opened.items ≡ array_of on.top on.top.count ∷ on.outer = on.opened ∙ ap (λ (t : Cursor). t ∷ on.outer) (as_array on.top on.top.count on.array) in
-      λ i. record { met = k.state.met.items; opened = e i; skipped = on.skipped i; name = on.name i }
+      λ i. record { met = k.state.met.items; opened = e i; skipped = k.state.skipped; name = on.name i }
 
-  comes : (n : ℕ) → n ≡ count → in_array k on.top on.outer n ≡ finding next.state
-  comes n is =
+  comes : (n above : ℕ) → n ≡ count → above ≡ next.state.skipped → in_array k on.top on.outer n above ≡ finding next.state
+  comes n above is above_is =
       let e : array_of on.top count ∷ on.outer ≡ reverse next.state.opened.items = ap (λ (t : Cursor). t ∷ on.outer) (sym (as_array on.top count on.array)) ∙ sym opened_is in
-      let s : 0 ≡ next.state.skipped = sym on.skipped ∙ sym same_skipped in
       let m : None ≡ next.state.name = sym on.name ∙ sym same_name in
-      ap (in_array k on.top on.outer) is ∙ (λ i. record { met = (sym same_met i).items; opened = e i; skipped = s i; name = m i })
+      ap (λ (n : ℕ). in_array k on.top on.outer n above) is ∙ (λ i. record { met = (sym same_met i).items; opened = e i; skipped = above_is i; name = m i })
 
   fresh : IsReady edges k → IsNextFrom edges on.top.level on.top.count k.next
   fresh ready = subst (λ (xs : List Cursor). IsNextIn edges xs k.next) on.opened ready
@@ -257,16 +355,15 @@ module _ (edges : List Edge) (counts : TokenCounts) (k next : Seeker) (count : �
   pub counts_on : Passes edges counts k next
   counts_on = record {
     seeks = λ trie ready text last ms more es others h.
-        let o = h.opening in
-        let c = h.closing in
-        let ho = on.opening in
-        let hc = on.closing in
-        let value : number_of has_end ms ≡ counts.strings + counts.scalars = sym (ended_by ms es counts h) ∙ h.ended in
+        let above = above_by counts ms es h in
+        let low = h.lowest in
+        let at_level = on.lowest in
+        let values = h.lowest_values in
         let is = on.count_is in
         ap (seek_all text edges last (ms ++ more) (es ++ others)) was
-        ∙ seek_along text edges k.state.met.items on.top.level on.outer on.top.count count (unwanted edges trie on.top k.next count fits on.unwanted (fresh ready)) last on.top.count ms more es others
-        (record { opening = omega (arith, o, ho); closing = omega (arith, c, hc); from = omega arith; within = omega (arith, value, is) }) (ended_by ms es counts h)
-        ∙ ap (seek_all text edges last more others) (comes (on.top.count + number_of has_end ms) (omega (arith, value, is)));
+        ∙ seek_along text edges k.state.met.items on.top.level on.outer k.state.skipped on.top.count count (unwanted edges trie on.top k.next count fits on.unwanted (fresh ready)) last ms more es others
+        (low ∙ at_level) (omega (arith, values, is)) (ended_by ms es counts h)
+        ∙ ap (seek_all text edges last more others) (comes (on.top.count + (levels_of ms).values) (levels_of ms).above (omega (arith, values, is)) (omega (arith, above, low, at_level, skipped)));
     ready = λ trie ready. subst (λ (n : ℕ). IsNextIn edges (reverse next.state.opened.items) n) (sym same_next) (subst (λ (xs : List Cursor). IsNextIn edges xs k.next) (sym opened_is) (more_fresh ready));
   }
 

@@ -32,7 +32,7 @@ pub record HasFed (settings : Settings) (pointers : List (List ℕ)) (bytes : Li
 abbrev pub end_of : Finder → ℕ
 end_of f = f.reader.start + f.reader.count
 
--- what it holds of them, if it holds anything
+-- the search that it keeps of them, if it keeps one
 abbrev pub held_by : Finder → Option Sought
 held_by f = f.held
 

@@ -1,4 +1,4 @@
--- What was found in the text that was read last.
+-- The answers that were found in the text that was read last.
 use Rattle.std.specs.Prelude.{List, Result}
 use Rattle.jx_index.specs.declared.find_fault.FindFault.{FindFault}
 use Rattle.jx_index.specs.declared.finder.Found.{Found}

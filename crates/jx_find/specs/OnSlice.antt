@@ -1,4 +1,4 @@
--- What is sought of the tokens of a slice.
+-- The tokens of a slice that are looked for.
 use Rattle.std.specs.Prelude.{◌≡◌, ℕ, ◌<◌, List, ◌++◌, Option, Some, drop, length, true}
 use Rattle.jx_lex.specs.declared.alphabet.mark.Mark.{Mark}
 use Rattle.jx_run.specs.Telling.{moved_ends, moved_marks}
@@ -22,7 +22,7 @@ pub record IsSought (before slice : List ℕ) (edges : List Edge) (marks : List 
   pub token : IsToken begun
   pub name_is : (m : Mark) → begun ≡ Some m → is_name_next m.kind (finding k.state) ≡ true → m.at < length before → name ≡ drop m.at before
 
--- whatever the state at the slice's start, these token starts and ends of the slice were sought after it
+-- after any state at the slice's start, these token starts and ends of the slice were sought
 pub record HasSought (held : Holds) (slice : List ℕ) (edges : List Edge) (marks : List Mark) (ends : List ℕ)
     (own : List ℕ) (base : ℕ) (own_edges : List Edge) (k : Seeker) (begun : Option Mark) (name : List ℕ) : Type 0 where
   pub slice_is : own ≡ slice

@@ -9,11 +9,12 @@ use jx_index::{Edge, Met, Seeker, State};
 use jx_lex::Mark;
 use std::alloc::{AllocError, Global};
 
-/// What was met at the nodes of a trie, and the open containers at its nodes; no edge from the node of the innermost open
-/// array names a place from its count on and below `next`. Also a token that has begun, and of a name the bytes so far.
+/// The tokens that were met at the nodes of a trie, and the open containers at its nodes; no edge from the node of the
+/// innermost open array names a place from its count on and below `next`. Also a token that has begun, and of a name
+/// the bytes so far.
 #[derive(Drop)]
 pub struct Sought {
-    /// What was met, and what is open.
+    /// The tokens that were met, and the containers that are open.
     pub state: State,
     /// The least place in the innermost open array that a pointer may want.
     pub next: usize,
@@ -50,7 +51,8 @@ impl Sought {
         Ok(())
     }
 
-    /// After the end of a text, which ends at `last`: a token that has begun ends there. Only want of memory is refused.
+    /// The state after the end of a text, which ends at `last`: a token that has begun ends there. Fails only when out
+    /// of memory.
     pub fn ended(self, edges: &[Edge], starts: &[usize], last: usize) -> Result<Sought, AllocError>
         ensures { IfOk result (λ ended. (bytes : List ℕ) (marks : List Mark) (ends : List ℕ) → last ≡ length bytes
             → IsHeld bytes edges.now marks ends self.state self.next self.begun self.name.items
@@ -73,7 +75,7 @@ impl Sought {
         })
     }
 
-    /// What was met up to the end of a text, which ends at `last`. Fails only when out of memory.
+    /// The tokens that were met up to the end of a text, which ends at `last`. Fails only when out of memory.
     pub fn into_met(
         self,
         edges: &[Edge],

@@ -9,7 +9,7 @@ ghost use Rattle.jx_find.specs.Held.{IsHeld};
 ghost use Rattle.jx_find.specs.OnSlice.{HasSought};
 
 use crate::held::Sought;
-use crate::seek_counts::{children_behind, may_count, set_count, skipped_behind};
+use crate::seek_counts::{may_count, place_behind, set_count, skipped_behind};
 use jx_index::{Edge, Seeker, has_end, held_name, moved, token_bytes};
 use jx_lex::{Mark, MarkKind, TokenCounts, TokenSink};
 use std::alloc::AllocError;
@@ -61,7 +61,7 @@ pub struct OnSlice<'a, 'p, B> {
     pub base: usize,
     /// The edges of the trie.
     pub edges: &'a [Edge<'p>],
-    /// What was found so far.
+    /// The tokens that were found so far.
     pub seeker: Seeker<'a>,
     /// A token that has begun, and that the seeker was not told of yet.
     pub begun: Option<Mark>,
@@ -189,7 +189,7 @@ impl<'a, 'p, B: Before> TokenSink for OnSlice<'a, 'p, B> {
     #[inline(always)]
     fn takes_counts(&self, counts: &TokenCounts) -> bool {
         skipped_behind(self.seeker.state.skipped, counts).is_some()
-            || children_behind(&self.seeker, counts).is_some()
+            || place_behind(&self.seeker, counts).is_some()
     }
 
     #[inline(always)]
@@ -198,10 +198,11 @@ impl<'a, 'p, B: Before> TokenSink for OnSlice<'a, 'p, B> {
             self.seeker.state.skipped = skipped;
             return Ok(());
         }
-        let Some(count) = children_behind(&self.seeker, counts) else {
+        let Some(place) = place_behind(&self.seeker, counts) else {
             return Err(AllocError);
         };
-        set_count(&mut self.seeker.state.opened, count);
+        self.seeker.state.skipped = place.skipped;
+        set_count(&mut self.seeker.state.opened, place.count);
         Ok(())
     }
 

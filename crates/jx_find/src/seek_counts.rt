@@ -1,5 +1,5 @@
 // The state of a look-up after tokens of which only the counts are known.
-ghost use Rattle.std.specs.Prelude.{◌≡◌, ◌+◌, ◌-◌, ◌^◌, ◌<◌, reverse, IfSome};
+ghost use Rattle.std.specs.Prelude.{◌≡◌, ◌+◌, ◌^◌, ◌<◌, reverse, IfSome};
 ghost use Rattle.jx_index.specs.inside.Trie.{first_open};
 ghost use Rattle.jx_find.specs.inside.SeekCounts.{CountsOn, with_count};
 
@@ -9,18 +9,27 @@ use jx_lex::TokenCounts;
 /// The most children of one array among the tokens of a block.
 const MOST: usize = 32;
 
+/// How many containers are skipped after such tokens.
+#[inline(always)]
+fn skipped_after(skipped: usize, counts: &TokenCounts) -> Option<usize>
+    ensures { IfSome result (λ more. more + counts.now.closing ≡ skipped + counts.now.opening) }
+{
+    let opened = skipped.checked_add(counts.opening as usize)?;
+    let more = opened.checked_sub(counts.closing as usize)?;
+    Some(more)
+}
+
 /// How many containers are skipped after such tokens, where some are skipped throughout.
 #[inline(always)]
 pub(crate) fn skipped_behind(skipped: usize, counts: &TokenCounts) -> Option<usize>
-    ensures some { IfSome result (λ more. counts.now.closing < skipped) }
-    ensures value { IfSome result (λ more. more ≡ skipped + counts.now.opening - counts.now.closing) }
+    ensures some { IfSome result (λ more. counts.now.lowest < skipped) }
+    ensures value { IfSome result (λ more. more + counts.now.closing ≡ skipped + counts.now.opening) }
 {
-    let closing = counts.closing as usize;
-    if closing < skipped {
-        (skipped - closing).checked_add(counts.opening as usize)
-    } else {
-        None
+    if counts.lowest as usize >= skipped {
+        return None;
     }
+    let more = skipped_after(skipped, counts)?;
+    Some(more)
 }
 
 /// The innermost open container.
@@ -43,15 +52,25 @@ pub(crate) fn may_count(seeker: &Seeker) -> bool {
     }
 }
 
-/// How many children the innermost open container has after such tokens, where it is an array, none of them is a
-/// bracket, and no child of the array that is among them is wanted.
+/// A place in the innermost open container.
+#[derive(Clone, Copy)]
+pub(crate) struct Inside {
+    /// How many children it has there.
+    pub count: usize,
+    /// How many containers are skipped there.
+    pub skipped: usize,
+}
+
+/// The place in the innermost open container after such tokens, where it is an array, they fall to its level and no lower,
+/// and no child of it that begins with them is wanted.
 #[inline(always)]
-pub(crate) fn children_behind(seeker: &Seeker, counts: &TokenCounts) -> Option<usize>
-    ensures fits { IfSome result (λ count. count < 2 ^ 64) }
-    ensures counts { IfSome result (λ count. CountsOn seeker.now counts.now count) }
+pub(crate) fn place_behind(seeker: &Seeker, counts: &TokenCounts) -> Option<Inside>
+    ensures fits { IfSome result (λ place. place.count < 2 ^ 64) }
+    ensures counts { IfSome result (λ place. CountsOn seeker.now counts.now place.count) }
+    ensures skipped { IfSome result (λ place. place.skipped + counts.now.closing ≡ seeker.now.state.skipped + counts.now.opening) }
 {
     let state = &seeker.state;
-    if state.skipped != 0 || counts.opening != 0 || counts.closing != 0 {
+    if counts.lowest as usize != state.skipped {
         return None;
     }
     if state.name.is_some() {
@@ -61,13 +80,12 @@ pub(crate) fn children_behind(seeker: &Seeker, counts: &TokenCounts) -> Option<u
     if top.is_object {
         return None;
     }
-    let values = counts.strings as usize + counts.scalars as usize;
-    let count = top.count.checked_add(values)?;
-    if count <= seeker.next {
-        Some(count)
-    } else {
-        None
+    let count = top.count.checked_add(counts.lowest_values as usize)?;
+    if count > seeker.next {
+        return None;
     }
+    let skipped = skipped_after(state.skipped, counts)?;
+    Some(Inside { count, skipped })
 }
 
 /// Sets how many children the innermost open container has, if there is one.

@@ -100,7 +100,7 @@ fn find_by(
     answers_along(alloc, met, &trie.ways, &trie.pointers, found)
 }
 
-/// What was found in the text that was read last, and the memory for the next one.
+/// The answers that were found in the text that was read last, and the memory for the next one.
 #[derive(Drop)]
 pub struct Findings {
     sought: Option<Sought>,
@@ -110,7 +110,7 @@ pub struct Findings {
 impl Findings {
     ghost use Rattle.jx_find.specs.Findings.{found_in};
 
-    /// Those of no text. Nothing is allocated.
+    /// The findings of no text. Nothing is allocated.
     pub fn new(alloc: Global) -> Findings
         ensures { found_in result ≡ [] }
     {
@@ -120,7 +120,7 @@ impl Findings {
         }
     }
 
-    /// For each pointer, in order, the value in the text that was read last, or the first token that leads nowhere.
+    /// The answers to the pointers, in order: the value in the text that was read last, or the first token that leads nowhere.
     pub fn found(&self) -> &[Result<Found, FindFault>]
         ensures { result.now ≡ found_in self.now }
     {

@@ -5,9 +5,10 @@ use Rattle.std.proofs.lemmas.List.{length-drop, length-map, map-append, take_all
 use Rattle.jx_lex.specs.declared.alphabet.mark.Mark.{Mark}
 use Rattle.jx_lex.specs.declared.alphabet.mark.MarkKind.{MarkKind}
 use Rattle.jx_lex.specs.declared.scanner.counts.TokenCounts.{TokenCounts}
-use Rattle.jx_lex.specs.Counts.{HasCounts, number_of, is_comma, is_string, is_scalar, opens, closes}
+use Rattle.jx_lex.specs.Counts.{HasCounts, Levels, at_start, number_of, is_comma, is_string, is_scalar, on_level, opens, closes}
 use Rattle.jx_lex.specs.Seen.{has_end}
 use Rattle.jx_lex.proofs.Counts.{number_of-more, number_of-has_end}
+use Rattle.jx_lex.proofs.Levels.{levels_from}
 use Rattle.jx_run.specs.Telling.{moved_ends, moved_mark, moved_marks}
 
 pub marks_more : (base : ℕ) (ms marks : List Mark) (m : Mark) → ms ++ moved_marks base (marks ++ m ∷ []) ≡ (ms ++ moved_marks base marks) ++ moved_mark base m ∷ []
@@ -34,6 +35,11 @@ number_of-moved test base (m ∷ ms) =
     let rest = number_of-moved test base ms in
     number_of-more test (moved_mark base m) (moved_marks base ms) ∙ ap (λ (n : ℕ). cond (test m.kind) 1 0 + n) rest ∙ sym (number_of-more test m ms)
 
+-- nor for the level
+levels-moved : (base : ℕ) (l : Levels) (ms : List Mark) → levels_from l (moved_marks base ms) ≡ levels_from l ms
+levels-moved base l [] = refl
+levels-moved base l (m ∷ ms) = levels-moved base (on_level m.kind l) ms
+
 pub moved_counts : (base : ℕ) (ms : List Mark) (es : List ℕ) (counts : TokenCounts) → HasCounts ms es counts → HasCounts (moved_marks base ms) (moved_ends base es) counts
 moved_counts base ms es counts h = record {
   commas = number_of-moved is_comma base ms ∙ h.commas;
@@ -42,6 +48,9 @@ moved_counts base ms es counts h = record {
   opening = number_of-moved opens base ms ∙ h.opening;
   closing = number_of-moved closes base ms ∙ h.closing;
   ended = length-map es (λ (end : ℕ). base + end) ∙ h.ended;
+  lowest = ap (λ (l : Levels). l.lowest) (levels-moved base at_start ms) ∙ h.lowest;
+  lowest_commas = ap (λ (l : Levels). l.commas) (levels-moved base at_start ms) ∙ h.lowest_commas;
+  lowest_values = ap (λ (l : Levels). l.values) (levels-moved base at_start ms) ∙ h.lowest_values;
 }
 
 -- as many ends as token starts with one

@@ -52,8 +52,7 @@ abbrev pub judged_unless : Option ℕ → JudgedElement → JudgedElement
 judged_unless None e = e
 judged_unless (Some at) e = record e { verdict = verdict.Refused (RepeatedName at) }
 
--- what an element of the input leads to by settings: the verdict on it within the depth, and what the rule makes of
--- that
+-- the verdict on an element of the input by settings: the one within the depth, and the one that the rule makes of that
 pub record IsJudgedBy (settings : Settings) (input : List ℕ) (p : Part) (e : JudgedElement) : Type 0 where
   pub told : JudgedElement
   pub judged : IsJudgedElement settings.depth p told

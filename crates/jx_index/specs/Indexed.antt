@@ -13,7 +13,7 @@ pub record IndexedValue : Type 0 where
   pub span : Span
   pub rows : List Row
 
--- what stands at the index's span is a text
+-- a text stands at the index's span
 pub record HasTree (index : IndexedValue) : Type 0 where
   pub limit : ℕ
   pub tree : Tree

@@ -5,7 +5,7 @@ use Rattle.std.specs.Prelude.{◌≡◌, ◌≢◌, ℕ, ◌+◌, ◌<◌, ◌�
 
 -- ---- which texts are pointers
 
--- what may follow a ~
+-- the bytes that may follow a ~
 abbrev pub IsEscapeDigit : ℕ → Type 0
 IsEscapeDigit byte = (byte ≡ 0x30) ⊎ (byte ≡ 0x31)
 

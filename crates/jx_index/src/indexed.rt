@@ -152,14 +152,14 @@ impl<'a> Indexed<'a> {
         self.text
     }
 
-    /// Where the text stands in the whole input, with the white space before and after its value.
+    /// The span of the text in the whole input, with the white space before and after its value.
     pub fn span(&self) -> Span
         ensures { result ≡ self.now.span }
     {
         self.span
     }
 
-    /// All rows, in rising order of their starts.
+    /// The rows, all of them, in rising order of their starts.
     pub fn rows(&self) -> &[Row]
         ensures same { result.now ≡ self.now.rows }
         ensures has_tree { HasTree self.now }
@@ -169,7 +169,7 @@ impl<'a> Indexed<'a> {
         self.nodes.rows.as_slice()
     }
 
-    /// All rows, in rising order of their starts. What else the index holds is freed.
+    /// The rows, all of them, in rising order of their starts. What else the index holds is freed.
     pub fn into_rows(self) -> Vec<Row>
         ensures { result.items ≡ self.entry.rows }
     {

@@ -72,7 +72,7 @@ fn read(wanted: &[Wanted], met: &[Met]) -> Result<Found, FindFault>
     }
 }
 
-/// What was met at each node of a way, in order.
+/// The tokens that were met at each node of a way, in order.
 fn met_on(alloc: Global, met: &[Met], way: &[usize]) -> Result<Vec<Met>, AllocError>
     ensures { IfOk result (λ along. along.items ≡ map (met_at met.now) way.now) }
 {
@@ -83,7 +83,7 @@ fn met_on(alloc: Global, met: &[Met], way: &[usize]) -> Result<Vec<Met>, AllocEr
     Ok(along)
 }
 
-/// What was met last on a way each of whose nodes was met once. As many tokens lead along it as nodes follow its first one.
+/// The value that was met last on a way each of whose nodes was met once. As many tokens lead along it as nodes follow its first one.
 fn found_along(met: &[Met], way: &[usize]) -> Option<Found>
     ensures { IfSome result (IsFoundAlong met.now way.now) }
 {

@@ -44,7 +44,7 @@ fn innermost(opened: &[Cursor]) -> Option<Cursor>
 }
 
 impl<'s> Seeker<'s> {
-    /// Nothing was met yet at the nodes after so many edges.
+    /// A seeker that has met nothing yet at the nodes after so many edges.
     pub fn new(alloc: Global, edges: usize, starts: &'s [usize]) -> Result<Seeker<'s>, AllocError>
         ensures state { IfOk result (λ seeker. finding seeker.state ≡ nothing_met edges) }
         ensures next { IfOk result (λ seeker. seeker.next ≡ 0) }
@@ -114,9 +114,14 @@ impl<'s> Seeker<'s> {
         ensures noted { IfOk result (λ _. IsTrie edges.now → IsReady edges.now self.old → finding self.new.state ≡ begin_at (target_node edges.now (finding self.old.state)) kind is_object at (finding self.old.state)) }
         ensures next { IfOk result (λ _. IsTrie edges.now → IsReady edges.now self.old → IsReady edges.now self.new) }
     {
-        let target = self.target(edges);
-        self.next = 0;
-        self.state.begin(target, kind, is_object, at)
+        match self.target(edges) {
+            // The innermost open container stays the same, so its next place does too.
+            None => self.state.begin(None, kind, is_object, at),
+            target => {
+                self.next = 0;
+                self.state.begin(target, kind, is_object, at)
+            }
+        }
     }
 
     /// A string: a name, or a value.

@@ -18,7 +18,7 @@ fn fill(starts: &mut Vec<usize>, node: usize, at: usize) -> Result<(), AllocErro
     Ok(())
 }
 
-/// For each node from which edges lead, and each before it, the number of the first edge that leads from it or a later one.
+/// The number of the first edge that leads from a node or a later one, for each node from which edges lead and each before it.
 pub fn starts_of(alloc: Global, edges: &[Edge]) -> Result<Vec<usize>, AllocError>
     ensures { IfOk result (λ starts. (at : ℕ) (e : Edge) → slice_get edges.now at ≡ Some e → e.parent < length starts.items) }
 {

@@ -12,6 +12,7 @@ pub mod Going
 pub mod Inside
 pub mod Keeping
 pub mod Lanes
+pub mod Levels
 pub mod LexJoin
 pub mod Literals
 pub mod OneByte

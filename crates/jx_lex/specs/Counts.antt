@@ -1,8 +1,8 @@
--- How many tokens of each kind there are (RFC 8259, sections 2 and 3).
-use Rattle.std.specs.Prelude.{◌≡◌, ℕ, ◌+◌, Bool, true, false, List, count_by, length}
+-- How many tokens of each kind there are (RFC 8259, sections 2 and 3), and at the lowest level.
+use Rattle.std.specs.Prelude.{◌≡◌, ℕ, suc, ◌+◌, ◌-◌, ◌==◌, Bool, true, false, if◌then◌else◌, List, count_by, fold, length}
 use Rattle.jx_lex.specs.declared.alphabet.mark.Mark.{Mark}
 use Rattle.jx_lex.specs.declared.alphabet.mark.MarkKind.{MarkKind}
-use Rattle.jx_lex.specs.declared.alphabet.mark.MarkKind.TheVariants.{OpenArray, CloseArray, OpenObject, CloseObject, Comma, String, Number, True, False, Null}
+use Rattle.jx_lex.specs.declared.alphabet.mark.MarkKind.TheVariants.{OpenArray, CloseArray, OpenObject, CloseObject, Colon, Comma, String, Number, True, False, Null}
 use Rattle.jx_lex.specs.declared.scanner.counts.TokenCounts.{TokenCounts}
 
 abbrev pub is_comma : MarkKind → Bool
@@ -35,7 +35,46 @@ closes _ = false
 abbrev pub number_of : (MarkKind → Bool) → List Mark → ℕ
 number_of test marks = count_by (λ mark. test mark.kind) marks
 
--- there are so many tokens of each kind, and an end of each string, number and literal
+-- ---- levels
+
+-- The level is how many containers are open. It fell so far below where it began at most, and stands so far above the
+-- lowest; so many commas stand and so many values begin at the lowest.
+pub record Levels : Type 0 where
+  pub lowest : ℕ
+  pub above : ℕ
+  pub commas : ℕ
+  pub values : ℕ
+
+abbrev pub at_start : Levels
+at_start = record { lowest = 0; above = 0; commas = 0; values = 0 }
+
+-- commas and values count at the lowest level
+abbrev pub seen_there : ℕ → ℕ → Levels → Levels
+seen_there commas values l = if l.above == 0 then record l { commas = l.commas + commas; values = l.values + values } else l
+
+-- a container is a value of the one around it
+abbrev pub opening : Levels → Levels
+opening l = let seen = seen_there 0 1 l in record seen { above = suc seen.above }
+
+-- below the lowest level nothing was seen yet
+abbrev pub closing : Levels → Levels
+closing l = if l.above == 0 then record { lowest = suc l.lowest; above = 0; commas = 0; values = 0 } else record l { above = l.above - 1 }
+
+-- one token start more
+abbrev pub on_level : MarkKind → Levels → Levels
+on_level OpenArray l = opening l
+on_level OpenObject l = opening l
+on_level CloseArray l = closing l
+on_level CloseObject l = closing l
+on_level Comma l = seen_there 1 0 l
+on_level Colon l = l
+on_level _ l = seen_there 0 1 l
+
+-- all of them, from the first to the last
+abbrev pub levels_of : List Mark → Levels
+levels_of marks = fold (λ l mark. on_level mark.kind l) at_start marks
+
+-- there are so many tokens of each kind and at the lowest level, and an end of each string, number and literal
 pub record HasCounts (marks : List Mark) (ends : List ℕ) (counts : TokenCounts) : Type 0 where
   pub commas : number_of is_comma marks ≡ counts.commas
   pub strings : number_of is_string marks ≡ counts.strings
@@ -43,3 +82,6 @@ pub record HasCounts (marks : List Mark) (ends : List ℕ) (counts : TokenCounts
   pub opening : number_of opens marks ≡ counts.opening
   pub closing : number_of closes marks ≡ counts.closing
   pub ended : length ends ≡ counts.strings + counts.scalars
+  pub lowest : (levels_of marks).lowest ≡ counts.lowest
+  pub lowest_commas : (levels_of marks).commas ≡ counts.lowest_commas
+  pub lowest_values : (levels_of marks).values ≡ counts.lowest_values

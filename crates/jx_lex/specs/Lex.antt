@@ -13,7 +13,7 @@ pub data LexExit : Type 0 where
   state : LexState → LexExit
   fault : ℕ → LexExit
 
--- what reading gives: the token starts, the ends of tokens and the exit
+-- the result of reading: the token starts, the ends of tokens and the exit
 pub record Track : Type 0 where
   pub marks : List Mark
   pub ends : List ℕ
@@ -34,7 +34,7 @@ with_end (Some After) at ends = suc at ∷ ends
 abbrev pub stops_at : ℕ → Track
 stops_at at = record { marks = []; ends = []; exit = fault at }
 
--- what a step gives, in front of what the rest gives
+-- the result of a step, in front of the result of the rest
 abbrev pub after_step : Step → ℕ → Track → Track
 after_step step at rest = record { marks = with_mark step.begin at rest.marks; ends = with_end step.end at rest.ends; exit = rest.exit }
 

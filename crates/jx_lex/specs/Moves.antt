@@ -300,7 +300,7 @@ in_Nul _ = fault
 
 -- ---- the machine
 
--- what a state does with each class
+-- the step of a state at each class
 abbrev pub row : LexState → Class → Step
 row state.Gap = in_Gap
 row state.Str = in_Str
@@ -335,6 +335,6 @@ row state.N = in_N
 row state.Nu = in_Nu
 row state.Nul = in_Nul
 
--- what a byte does in a state
+-- the step of a state at a byte
 abbrev pub move : LexState → ℕ → Step
 move from byte = row from (class_at byte)

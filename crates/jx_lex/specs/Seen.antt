@@ -19,7 +19,7 @@ use Rattle.jx_lex.specs.TokenStates.{in_token}
 abbrev pub Seen : Type 1
 Seen = List Mark → List ℕ → Type 0
 
--- whatever was seen before, these token starts and ends were seen after it
+-- after any token starts and ends that were seen before, these were seen
 abbrev pub Grows : Seen → Seen → List Mark → List ℕ → Type 0
 Grows old new more others = (marks : List Mark) (ends : List ℕ) → old marks ends → new (marks ++ more) (ends ++ others)
 
@@ -36,7 +36,7 @@ pub record GoesTo (old new : Seen) (track : Track) (to : LexState) : Type 0 wher
   pub seen : SeesTrack old new track
   pub exit : track.exit ≡ reading.state to
 
--- what a sink may be given next: an end (true), or a token start
+-- the event that a sink may be given next: an end (true), or a token start
 abbrev pub Awaits : Type 1
 Awaits = Bool → Type 0
 
@@ -49,19 +49,19 @@ has_end mark.False = true
 has_end mark.Null = true
 has_end _ = false
 
--- what a sink has to await before a byte that ends a token or begins one
+-- the event that a sink has to await before a byte that ends a token or begins one
 abbrev pub Takes : Awaits → Option TokenEnd → Option MarkKind → Type 0
 Takes awaits (Some end) begin = awaits true
 Takes awaits None (Some kind) = awaits false
 Takes awaits None None = Unit {0}
 
--- what it awaits after that byte
+-- the event that it awaits after that byte
 abbrev pub Leaves : Awaits → Awaits → Option MarkKind → Option TokenEnd → Type 0
 Leaves old new (Some kind) end = new (has_end kind)
 Leaves old new None (Some end) = new false
 Leaves old new None None = (inside : Bool) → old inside → new inside
 
--- what it awaits where a reading ends
+-- the event that it awaits where a reading ends
 abbrev pub AwaitsAt : Awaits → LexExit → Type 0
 AwaitsAt awaits (State s) = awaits (in_token s)
 AwaitsAt awaits (Fault at) = Unit {0}

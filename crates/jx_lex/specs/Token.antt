@@ -80,7 +80,7 @@ pub data IsHexDigit : ℕ → Type 0 where
   upper : {b : ℕ} → IsWithin 0x41 0x46 b → IsHexDigit b
   lower : {b : ℕ} → IsWithin 0x61 0x66 b → IsHexDigit b
 
--- what may stand after a backslash, other than u
+-- the bytes that may stand after a backslash, other than u
 --   %x22 / %x5C / %x2F / %x62 / %x66 / %x6E / %x72 / %x74
 pub data IsEscaped : ℕ → Type 0 where
   quotation_mark : IsEscaped 0x22
@@ -92,7 +92,7 @@ pub data IsEscaped : ℕ → Type 0 where
   return : IsEscaped 0x72
   tabulator : IsEscaped 0x74
 
--- what an escape of one letter stands for
+-- the unit that an escape of one letter stands for
 abbrev pub escaped_unit : ℕ → ℕ
 escaped_unit b =
     if b == 0x62 then 0x08 else

@@ -8,7 +8,7 @@ abbrev pub right_of : LexExit → (LexState → Track) → Track
 right_of (LexExit.state s) right = right s
 right_of (LexExit.fault at) right = stops_at at
 
--- what the first gives, and after it what the second gives
+-- the track of the first, and after it that of the second
 abbrev pub joined : Track → (LexState → Track) → Track
 joined left right =
     let r = right_of left.exit right in

@@ -41,7 +41,7 @@ is_three a b c = nat_le 0xe0 a && nat_le a 0xef && is_tail b && is_tail c && (no
 abbrev pub is_four : ℕ → ℕ → ℕ → ℕ → Bool
 is_four a b c d = nat_le 0xf0 a && nat_le a 0xf4 && is_tail b && is_tail c && is_tail d && (not (a == 0xf0) || nat_le 0x90 b) && (not (a == 0xf4) || nat_le b 0x8f)
 
--- what may stand after a backslash, other than u (RFC 8259, section 7)
+-- the bytes that may stand after a backslash, other than u (RFC 8259, section 7)
 abbrev pub is_escaped : ℕ → Bool
 is_escaped byte = byte == 0x22 || byte == 0x5c || byte == 0x2f || byte == 0x62 || byte == 0x66 || byte == 0x6e || byte == 0x72 || byte == 0x74
 

@@ -1,7 +1,10 @@
 pub mod Adds
+pub mod Ascii
 pub mod Cuts
+pub mod Escapes
+pub mod InFront
 pub mod Marks
 pub mod Spelt
 pub mod Verdicts
-pub mod Writes
-pub mod InFront
+pub mod Tells
+pub mod ReadBack

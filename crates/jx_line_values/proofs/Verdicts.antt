@@ -25,7 +25,8 @@ use Rattle.jx_ndjson.specs.Answers.{IsCut, are_blanks}
 use Rattle.jx_ndjson.specs.Lines.{line}
 use Rattle.jx_ndjson.proofs.Judging.{shows_by}
 use Rattle.jx_line_values.specs.declared.task.LineValuesTask.{LineValuesTask}
-use Rattle.jx_line_values.specs.LineValues.{LineGiven, none_given, pointers_of, tabbed, told_of_found, told_of_verdict, value_bytes, values_given}
+use Rattle.jx_line_values.specs.Cells.{separator}
+use Rattle.jx_line_values.specs.LineValues.{LineGiven, joined, none_given, pointers_of, told_of_found, told_of_verdict, value_bytes, values_given}
 use Rattle.jx_line_values.specs.inside.Adding.{IsAdded, settings_with, told_of_all, written_of}
 
 -- ---- results
@@ -64,7 +65,7 @@ module _ (task : LineValuesTask) (mark : FrontMark) (number : ℕ) (bytes : List
   added = IsAdded task mark (line number here is_ended) ready longer told retold
 
   abbrev none_by : LineVerdict → LineGiven
-  none_by v = none_given (pointers_of task) (told_of_verdict task.skips_blank number v)
+  none_by v = none_given task (told_of_verdict task.skips_blank number v)
 
   abbrev limit : ℕ
   limit = task.settings.depth
@@ -105,27 +106,27 @@ module _ (task : LineValuesTask) (mark : FrontMark) (number : ℕ) (bytes : List
   found_are tree (pointer ∷ pointers) (one ∷ found) h =
       ap (λ (x : Result Found FindFault). x ∷ found) h.0 ∙ ap (λ (xs : List (Result Found FindFault)). found_for tree pointer ∷ xs) (found_are tree pointers found h.1)
 
-  values_are : (tree : Tree) (pointers : List (List ℕ)) → map (value_bytes bytes) (map (found_for tree) pointers) ≡ map (λ (pointer : List ℕ). value_bytes bytes (found_for tree pointer)) pointers
+  values_are : (tree : Tree) (pointers : List (List ℕ)) → map (value_bytes task bytes) (map (found_for tree) pointers) ≡ map (λ (pointer : List ℕ). value_bytes task bytes (found_for tree pointer)) pointers
   values_are tree [] = refl
-  values_are tree (pointer ∷ pointers) = ap (λ (xs : List (List ℕ)). value_bytes bytes (found_for tree pointer) ∷ xs) (values_are tree pointers)
+  values_are tree (pointer ∷ pointers) = ap (λ (xs : List (List ℕ)). value_bytes task bytes (found_for tree pointer) ∷ xs) (values_are tree pointers)
 
-  told_are : (tree : Tree) (pointers : List (List ℕ)) → told_of_all number pointers (map (found_for tree) pointers) ≡ flat_map (λ (pointer : List ℕ). told_of_found number pointer (found_for tree pointer)) pointers
+  told_are : (tree : Tree) (pointers : List (List ℕ)) → told_of_all task.form number bytes pointers (map (found_for tree) pointers) ≡ flat_map (λ (pointer : List ℕ). told_of_found task.form number bytes pointer (found_for tree pointer)) pointers
   told_are tree [] = refl
-  told_are tree (pointer ∷ pointers) = ap (λ (xs : List ℕ). told_of_found number pointer (found_for tree pointer) ++ xs) (told_are tree pointers)
+  told_are tree (pointer ∷ pointers) = ap (λ (xs : List ℕ). told_of_found task.form number bytes pointer (found_for tree pointer) ++ xs) (told_are tree pointers)
 
   pub values_added : Verdicts → (found : List (Result Found FindFault)) → are_blanks bytes ≡ false → (tree : Tree) → IsDocument 0 bytes limit tree → (ends_open bytes && not is_ended) ≡ false
-      → AllZip (λ (pointer : List ℕ) (one : Result Found FindFault). one ≡ found_for tree pointer) (pointers_of task) found → longer ≡ ready ++ written_of bytes found
-      → retold ≡ told ++ told_of_all number (pointers_of task) found → added
+      → AllZip (λ (pointer : List ℕ) (one : Result Found FindFault). one ≡ found_for tree pointer) (pointers_of task) found → longer ≡ ready ++ written_of task bytes found
+      → retold ≡ told ++ told_of_all task.form number bytes (pointers_of task) found → added
   values_added law found filled tree d shut finds w t =
       let are = found_are tree (pointers_of task) found finds in
       let uncut : IsCut (line number here is_ended) by → ⊥ =
       λ cut. not_true (sym (closed (ends_open bytes) is_ended shut cut.not_ended) ∙ (shows_by law by here cut.tree cut.is_text).0 cut.unclosed) in
       record {
-        given = values_given (pointers_of task) number bytes tree;
+        given = values_given task number bytes tree;
         is_given = record { verdict = Accepted; is_verdict = (filled, a_text (plain by 0 bytes tree d), uncut); gives = (tree, d, refl) };
         written =
             w
-            ∙ ap (λ (fs : List (Result Found FindFault)). ready ++ written_of bytes fs) are
-            ∙ ap (λ (vs : List (List ℕ)). ready ++ (tabbed vs ++ 10 ∷ [])) (values_are tree (pointers_of task));
-        telling = t ∙ ap (λ (fs : List (Result Found FindFault)). told ++ told_of_all number (pointers_of task) fs) are ∙ ap (λ (xs : List ℕ). told ++ xs) (told_are tree (pointers_of task));
+            ∙ ap (λ (fs : List (Result Found FindFault)). ready ++ written_of task bytes fs) are
+            ∙ ap (λ (vs : List (List ℕ)). ready ++ (joined (separator task.form) vs ++ 10 ∷ [])) (values_are tree (pointers_of task));
+        telling = t ∙ ap (λ (fs : List (Result Found FindFault)). told ++ told_of_all task.form number bytes (pointers_of task) fs) are ∙ ap (λ (xs : List ℕ). told ++ xs) (told_are tree (pointers_of task));
       }

@@ -1,50 +1,25 @@
--- What a report on the values of lines does to the bytes of its reader and its writers.
+-- The output and the messages of a report on the values of lines.
 use Rattle.std.specs.Prelude.{◌≡◌, ◌⊎◌, ℕ, List, ◌++◌, Option, Bool, false}
-use Rattle.std.specs.Io.KnownBytes.{Appends, Consumes}
+use Rattle.std.specs.Io.KnownBytes.{Appends}
 use Rattle.jx_ends.specs.declared.exit.Exit.{Exit}
-use Rattle.jx_ends.specs.Ends.{ReadsToEnd, AppendsBeginning}
 use Rattle.jx_line_values.specs.declared.task.LineValuesTask.{LineValuesTask}
 use Rattle.jx_line_values.specs.LineValues.{IsDue, LineValuesOutput}
 
--- the reader gave all that it had, the writer got the whole output for it, and the messages were written unless such a write failed
-pub record ReportsLineValues (task : LineValuesTask) (unread left written grown : Option (List ℕ)) (is_lost : Bool) (told retold : Option (List ℕ)) (exit : Exit) : Type 0 where
-  pub text : List ℕ
-  pub output : List ℕ
+-- this is the whole output for an input and the status, and the messages on it were written unless such a write failed
+pub record ToldOutput (task : LineValuesTask) (is_lost : Bool) (told retold : Option (List ℕ)) (input output : List ℕ) (exit : Exit) : Type 0 where
   pub tells : List ℕ
-  pub read : ReadsToEnd unread left text
-  pub answer : LineValuesOutput task text output tells exit
-  pub wrote : Appends written grown output
+  pub answer : LineValuesOutput task input output tells exit
   pub says : is_lost ≡ false → Appends told retold tells
 
--- the writer got what is due of the bytes that were read, and the messages on them were written unless such a write failed
-pub record WroteDue (task : LineValuesTask) (unread left written grown : Option (List ℕ)) (is_lost : Bool) (told retold : Option (List ℕ)) : Type 0 where
-  pub text : List ℕ
-  pub output : List ℕ
+-- this is due of the bytes of an input, and the messages on them were written unless such a write failed
+pub record ToldDue (task : LineValuesTask) (is_lost : Bool) (told retold : Option (List ℕ)) (input output : List ℕ) : Type 0 where
   pub tells : List ℕ
-  pub read : Consumes unread left text
-  pub due : IsDue task text output tells
-  pub wrote : Appends written grown output
+  pub due : IsDue task input output tells
   pub says : is_lost ≡ false → Appends told retold tells
 
--- the same of a beginning of the bytes that were read: whole lines
-pub record WroteLines (task : LineValuesTask) (unread left written grown : Option (List ℕ)) (is_lost : Bool) (told retold : Option (List ℕ)) : Type 0 where
-  pub text : List ℕ
-  pub more : List ℕ
-  pub output : List ℕ
-  pub tells : List ℕ
-  pub read : Consumes unread left (text ++ more)
-  pub due : IsDue task text output tells
-  pub wrote : Appends written grown output
-  pub says : is_lost ≡ false → Appends told retold tells
-
--- the writer got a beginning of what is due of the bytes that were read, or of the whole output for them, and not all; of the messages
--- on them a beginning was written
-pub record WroteInPart (task : LineValuesTask) (unread left written grown : Option (List ℕ)) (is_lost : Bool) (told retold : Option (List ℕ)) : Type 0 where
-  pub text : List ℕ
-  pub output : List ℕ
+-- this is due of the bytes of an input, or the whole output for them; of the messages on them a beginning was written
+pub record ToldBegun (task : LineValuesTask) (is_lost : Bool) (told retold : Option (List ℕ)) (input output : List ℕ) : Type 0 where
   pub before : List ℕ
   pub behind : List ℕ
-  pub read : Consumes unread left text
-  pub of : IsDue task text output (before ++ behind) ⊎ ((exit : Exit) × LineValuesOutput task text output (before ++ behind) exit)
-  pub wrote : AppendsBeginning written grown output
+  pub of : IsDue task input output (before ++ behind) ⊎ ((exit : Exit) × LineValuesOutput task input output (before ++ behind) exit)
   pub says : is_lost ≡ false → Appends told retold before

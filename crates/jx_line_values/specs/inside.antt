@@ -1,4 +1,5 @@
--- What the contracts of this crate's own functions cite, and no public one.
+-- Definitions that the contracts of this crate's own functions cite, and no public one.
 pub mod Adding
 pub mod Cutting
-pub mod Steps
+pub mod Texts
+pub mod ValuesTeller

@@ -54,10 +54,10 @@ fn add_none(
     number: usize,
     verdict: LineVerdict,
 ) -> Result<(), AllocError>
-    ensures ready { OnOk result (ready.new.items ≡ ready.old.items ++ (none_given (pointers_of task.now) (told_of_verdict task.now.skips_blank number verdict)).written) }
+    ensures ready { OnOk result (ready.new.items ≡ ready.old.items ++ (none_given task.now (told_of_verdict task.now.skips_blank number verdict)).written) }
     ensures told { OnOk result (told.new.items ≡ told.old.items ++ told_of_verdict task.now.skips_blank number verdict) }
 {
-    add_no_values(ready, &task.pointers)?;
+    add_no_values(ready, task)?;
     add_verdict(told, task.skips_blank, number, verdict)
 }
 
@@ -65,17 +65,18 @@ fn add_none(
 fn add_found_values(
     ready: &mut Vec<u8>,
     told: &mut Vec<u8>,
+    text: &mut Vec<u8>,
     task: &LineValuesTask,
     number: usize,
     bytes: &[u8],
     found: &[Result<Found, FindFault>],
 ) -> Result<(), AllocError>
     requires { length task.now.pointers.items ≡ length found.now }
-    ensures ready { OnOk result (ready.new.items ≡ ready.old.items ++ written_of bytes.now found.now) }
-    ensures told { OnOk result (told.new.items ≡ told.old.items ++ told_of_all number (pointers_of task.now) found.now) }
+    ensures ready { OnOk result (ready.new.items ≡ ready.old.items ++ written_of task.now bytes.now found.now) }
+    ensures told { OnOk result (told.new.items ≡ told.old.items ++ told_of_all task.now.form number bytes.now (pointers_of task.now) found.now) }
 {
-    add_values(ready, bytes, found)?;
-    add_all_found(told, number, &task.pointers, found)
+    add_values(ready, text, task, bytes, found)?;
+    add_all_found(told, task.form, number, bytes, &task.pointers, found)
 }
 
 /// Whether more of a line's value may follow its last byte, where a line feed ends the line or none does.
@@ -89,6 +90,7 @@ fn may_go_on(bytes: &[u8], is_ended: bool) -> bool
 fn add_accepted(
     ready: &mut Vec<u8>,
     told: &mut Vec<u8>,
+    text: &mut Vec<u8>,
     task: &LineValuesTask,
     number: usize,
     bytes: &[u8],
@@ -104,7 +106,7 @@ fn add_accepted(
     if may_go_on(bytes, is_ended) {
         return add_none(ready, told, task, number, LineVerdict::MayBeCut);
     }
-    add_found_values(ready, told, task, number, bytes, found)
+    add_found_values(ready, told, text, task, number, bytes, found)
 }
 
 /// Why a line is refused that begins with a part of a byte order mark, where one is ignored. No whole one stands in front.
@@ -128,15 +130,17 @@ pub(crate) struct LineInFront<'a> {
     pub len: usize,
     /// Whether a line feed ends it.
     pub is_ended: bool,
-    /// What becomes of a byte order mark that it begins with.
+    /// The rule on a byte order mark that it begins with.
     pub mark: FrontMark,
 }
 
-/// Adds the output for a line and the messages on it. The pointers that are looked up are those of the task.
+/// Adds the output for a line and the messages on it. The pointers that are looked up are those of the task. The text of a value
+/// is made in `text`.
 pub(crate) fn add_line(
     alloc: Global,
     ready: &mut Vec<u8>,
     told: &mut Vec<u8>,
+    text: &mut Vec<u8>,
     findings: &mut Findings,
     task: &LineValuesTask,
     trie: &PointerTrie,
@@ -167,6 +171,7 @@ pub(crate) fn add_line(
             Verdict::Accepted => add_accepted(
                 ready,
                 told,
+                text,
                 task,
                 number,
                 bytes,

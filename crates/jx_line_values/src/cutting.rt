@@ -47,7 +47,7 @@ fn line_at(mark: FrontMark, ended: usize, line: &[u8]) -> &[u8]
     }
 }
 
-/// What becomes of a byte order mark that it begins with then.
+/// The rule on a byte order mark that it begins with then.
 fn line_mark(mark: FrontMark, ended: usize, line: &[u8]) -> FrontMark
     ensures { result ≡ line_mark mark ended line.now }
 {
@@ -66,6 +66,8 @@ pub(crate) struct LineCutter {
     ready: Vec<u8>,
     told: Vec<u8>,
     exit: Exit,
+    /// Room for the text of a value.
+    text: Vec<u8>,
     findings: Findings,
 }
 
@@ -78,7 +80,7 @@ impl Model for LineCutter {
 }
 
 impl LineCutter {
-    /// One that has taken no byte. Nothing is allocated.
+    /// A cutter that has taken no byte. Nothing is allocated.
     pub fn new(alloc: Global) -> LineCutter
         ensures taken { (task : LineValuesTask) → HasTaken task [] [] [] result }
         ensures ready { result.ready ≡ [] }
@@ -90,6 +92,7 @@ impl LineCutter {
             ready: Vec::new(alloc),
             told: Vec::new(alloc),
             exit: Exit::Good,
+            text: Vec::new(alloc),
             findings: Findings::new(alloc),
         }
     }
@@ -113,6 +116,7 @@ impl LineCutter {
             alloc,
             &mut self.ready,
             &mut self.told,
+            &mut self.text,
             &mut self.findings,
             task,
             trie,
@@ -153,6 +157,7 @@ impl LineCutter {
             alloc,
             &mut self.ready,
             &mut self.told,
+            &mut self.text,
             &mut self.findings,
             task,
             trie,
@@ -240,7 +245,7 @@ impl LineCutter {
         Ok(())
     }
 
-    /// What waits to be written.
+    /// The bytes that wait to be written.
     pub fn ready(&self) -> &[u8]
         ensures { result.now ≡ self.now.ready }
     {
@@ -254,7 +259,7 @@ impl LineCutter {
         &self.told
     }
 
-    /// Lets what waits go, which was written and told.
+    /// Lets what waits go, which was written and reported.
     pub fn clear(&mut self)
         ensures ready { self.new.ready ≡ [] }
         ensures told { self.new.told ≡ [] }
@@ -288,6 +293,7 @@ impl LineCutter {
             alloc,
             &mut self.ready,
             &mut self.told,
+            &mut self.text,
             &mut self.findings,
             task,
             trie,

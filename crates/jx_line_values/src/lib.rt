@@ -3,13 +3,22 @@
 
 mod adding;
 mod answering;
+mod cells;
 mod cutting;
+mod header;
+mod laws;
 mod looking;
 mod pointers;
 mod reporting;
+mod row_form;
 mod task;
 mod telling;
+mod texts;
+mod values_teller;
 
+pub use header::write_header;
+pub use laws::{cells_between_commas, cells_between_tabs};
 pub use pointers::{Misspelt, first_misspelt};
 pub use reporting::report_line_values;
+pub use row_form::RowForm;
 pub use task::LineValuesTask;

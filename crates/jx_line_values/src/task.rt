@@ -1,7 +1,8 @@
-// What is asked of the lines of an input.
+// The question that is asked of the lines of an input.
+use crate::row_form::RowForm;
 use jx_run::Settings;
 
-/// What is asked of each line of an input.
+/// The question that is asked of each line of an input.
 #[derive(Debug, Drop)]
 pub struct LineValuesTask {
     /// The pointers to the values of a line (RFC 6901, section 3), as they were given.
@@ -11,4 +12,8 @@ pub struct LineValuesTask {
     pub settings: Settings,
     /// Whether empty lines are skipped in silence.
     pub skips_blank: bool,
+    /// How the values of a line stand in a row.
+    pub form: RowForm,
+    /// The text that is written where there is no value. In a row of texts also where `null` is one.
+    pub none: String,
 }

@@ -1,4 +1,4 @@
--- What the program makes of a stream of frames, and what it writes.
+-- The session that the program makes of a stream of frames, and its output.
 use Rattle.std.specs.Prelude.{◌≡◌, ◌≢◌, ◌⊎◌, ℕ, List, [], ◌∷◌, ◌++◌, Bool, false, true, is_some, Option, None, Some}
 use Rattle.std.specs.Io.KnownBytes.{Appends, Consumes, IsAtEnd}
 use Rattle.jx_index.specs.ByNames.{IsVerdictBy}

@@ -39,7 +39,7 @@ abbrev pub after : List LexState → List ℕ → List LexState
 after held [] = held
 after held (b ∷ bs) = after (held_after b held) bs
 
--- whatever stands in a state is one of these
+-- a link that stands in a state stands in one of these
 abbrev pub HeldAt : List LexState → Link → Type 0
 HeldAt held (State t) = has t held ≡ true
 HeldAt held (Ahead k) = Unit {0}

@@ -63,7 +63,7 @@ impl ChunkMap {
         &self.segments
     }
 
-    /// How many token starts the map holds, those of all segments together.
+    /// The number of token starts that the map holds, those of all segments together.
     pub fn stored(&self) -> u128
         ensures value { result ≡ stored self.now.segments }
     {

@@ -61,14 +61,14 @@ impl Segment {
         segment
     }
 
-    /// Its token starts, in order.
+    /// The token starts of the segment, in order.
     pub fn marks(&self) -> &[Mark]
         ensures { result.now ≡ self.now.marks }
     {
         self.marks.as_slice()
     }
 
-    /// Its ends of strings, numbers and literals, in order, each just past the token's last byte.
+    /// The ends of its strings, numbers and literals, in order, each just past the token's last byte.
     pub fn ends(&self) -> &[usize]
         ensures { result.now ≡ self.now.ends }
     {

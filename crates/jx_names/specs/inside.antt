@@ -1,4 +1,4 @@
--- What the contracts of this crate's own functions cite.
+-- Definitions that the contracts of this crate's own functions cite.
 pub mod ApartKeys
 pub mod HeldNames
 pub mod KeptNames

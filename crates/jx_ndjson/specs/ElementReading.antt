@@ -11,7 +11,7 @@ use Rattle.jx_run.specs.SequenceRead.{AreRead}
 use Rattle.jx_ndjson.specs.Elements.{ended_elements}
 
 pub record ElementReaderValue : Type 0 where
-  -- what becomes of a byte order mark in front
+  -- the rule on a byte order mark in front
   pub mark : FrontMark
   -- the first bytes of the input, where no record separator was read
   pub first : List ℕ

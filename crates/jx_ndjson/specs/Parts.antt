@@ -2,12 +2,12 @@
 use Rattle.std.specs.Prelude.{ℕ, suc, Bool, List, [], ◌∷◌, if◌then◌else◌}
 use Rattle.jx_run.specs.Elements.{Part, part}
 
--- what is before the first separator, or all where there is none
+-- the bytes before the first separator, or all where there is none
 abbrev pub before_first : (ℕ → Bool) → List ℕ → List ℕ
 before_first separates [] = []
 before_first separates (b ∷ bytes) = if separates b then [] else b ∷ before_first separates bytes
 
--- what follows each separator, up to the next one or to the end, in order; the bytes stand from an offset on
+-- the part after each separator, up to the next one or to the end, in order; the bytes stand from an offset on
 abbrev pub behind_each : (ℕ → Bool) → ℕ → List ℕ → List Part
 behind_each separates at [] = []
 behind_each separates at (b ∷ bytes) =

@@ -77,7 +77,7 @@ impl Model for ElementReader {
 }
 
 impl ElementReader {
-    /// Before the first byte. The settings' names are ignored: objects may repeat them. Nothing is allocated.
+    /// A reader before the first byte. The settings' names are ignored: objects may repeat them. Nothing is allocated.
     pub fn new(alloc: Global, settings: &Settings) -> ElementReader
         ensures told { HasToldElements settings.now [] [] result }
         ensures start { result.reader.start + result.reader.count ≡ 0 }

@@ -76,7 +76,7 @@ impl Model for LineReader {
 }
 
 impl LineReader {
-    /// Before the first byte. The settings' names are ignored: objects may repeat them. Nothing is allocated.
+    /// A reader before the first byte. The settings' names are ignored: objects may repeat them. Nothing is allocated.
     pub fn new(alloc: Global, settings: &Settings) -> LineReader
         ensures told { HasTold settings.now [] [] result }
         ensures start { result.reader.start + result.reader.count ≡ 0 }
@@ -103,7 +103,7 @@ impl LineReader {
         self.reader.end()
     }
 
-    /// How many lines a line feed has ended.
+    /// The number of lines that a line feed has ended.
     pub fn ended(&self) -> usize
         ensures count { result ≡ self.now.ended }
         ensures within { result ≤ self.now.reader.start }
@@ -310,7 +310,7 @@ impl LineReader {
         }
     }
 
-    /// How many bytes of the line that goes on it has read.
+    /// The number of bytes that it has read of the line that goes on.
     pub fn open_len(&self) -> usize
         ensures { result ≡ self.now.reader.count }
     {

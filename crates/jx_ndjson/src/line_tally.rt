@@ -152,7 +152,7 @@ impl Model for LineTally {
 }
 
 impl LineTally {
-    /// One that has taken no byte. The settings' names are ignored: objects may repeat them. Nothing is allocated.
+    /// A tally that has taken no byte. The settings' names are ignored: objects may repeat them. Nothing is allocated.
     pub fn new(alloc: Global, settings: &Settings) -> LineTally
         ensures taken { HasTaken settings.now [] [] result }
         ensures start { result.lines.reader.start + result.lines.reader.count ≡ 0 }

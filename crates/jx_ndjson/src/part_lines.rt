@@ -10,7 +10,7 @@ use jx_run::Settings;
 use memchr::{memchr, memrchr};
 use std::alloc::{AllocError, Global};
 
-/// From after the first line feed of a part up to after the last one; none where there are no two.
+/// The span from after the first line feed of a part up to after the last one; none where there are no two.
 pub fn whole_lines_of(part: &[u8]) -> Option<Span>
     ensures ordered { IfSome result (λ s. s.start < s.end) }
     ensures within { IfSome result (λ s. s.end ≤ length part.now) }

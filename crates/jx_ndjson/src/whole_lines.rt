@@ -56,14 +56,14 @@ impl WholeLines {
         WholeLines { len, count, bad }
     }
 
-    /// How many bytes they have.
+    /// The number of bytes that the lines have.
     pub fn len(&self) -> usize
         ensures { result ≡ self.now.len }
     {
         self.len
     }
 
-    /// How many lines there are.
+    /// The number of lines.
     pub fn count(&self) -> usize
         ensures count { result ≡ self.now.count }
         ensures len { result ≤ self.now.len }
@@ -72,7 +72,7 @@ impl WholeLines {
         self.count
     }
 
-    /// Those that are not valid JSON, in their order.
+    /// The lines that are not valid JSON, in their order.
     pub fn bad(&self) -> &[JudgedLine]
         ensures { result.now ≡ self.now.bad }
     {

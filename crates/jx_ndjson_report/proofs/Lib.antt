@@ -1,7 +1,7 @@
 pub mod ElementTakes
+pub mod FirstTakes
 pub mod PassWrites
 pub mod Passes
 pub mod Told
 pub mod Takes
-pub mod Writes
 pub mod Seams

@@ -19,7 +19,7 @@ element_line front element = front ++ judged_line element
 abbrev pub lines_of : ElementsTask → List JudgedElement → List ℕ
 lines_of task answers = shown_output task.is_quiet (flat_map (element_line task.front.items) answers)
 
--- what is due of the bytes of an input: a line for each element that a record separator ends
+-- the output that is due of the bytes of an input: a line for each element that a record separator ends
 pub record IsDue (task : ElementsTask) (input output : List ℕ) : Type 0 where
   pub answers : List JudgedElement
   pub are_answers : AllZip (IsJudgedElement task.settings.depth) (ended_elements task.settings.mark input) answers

@@ -1,6 +1,6 @@
 pub mod Elements
+pub mod First
 pub mod Output
 pub mod PassReports
 pub mod Passed
-pub mod Reports
 pub mod inside

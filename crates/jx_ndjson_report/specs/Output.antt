@@ -109,7 +109,7 @@ exit_of (j ∷ bad) = Bad
 
 -- ---- of an input
 
--- what is due of the bytes of an input: a line for each bad one of the lines that a line feed ends
+-- the output that is due of the bytes of an input: a line for each bad one of the lines that a line feed ends
 pub record IsDue (task : LinesTask) (input output : List ℕ) : Type 0 where
   pub answers : List JudgedLine
   pub are_answers : AllZip (IsAnswer task.settings) (ended_lines task.settings.mark input) answers

@@ -1,4 +1,4 @@
--- What passes through of JSON Lines: the bytes of each accepted line, as they stand in the input.
+-- The lines that pass through of JSON Lines: the bytes of each accepted line, as they stand in the input.
 use Rattle.std.specs.Prelude.{◌≡◌, ℕ, suc, List, [], ◌++◌, flat_map, if◌then◌else◌, slice_range}
 use Rattle.std.specs.List.{AllZip}
 use Rattle.jx_ndjson.specs.declared.judged_line.JudgedLine.{JudgedLine}
@@ -16,7 +16,7 @@ passed_line input j = if is_good j.verdict then slice_range input j.span.start (
 abbrev pub passed_lines : List ℕ → List JudgedLine → List ℕ
 passed_lines input answers = flat_map (passed_line input) answers
 
--- what is due of the bytes of an input: the accepted ones of the lines that a line feed ends, and a report on the bad ones
+-- the output that is due of the bytes of an input: the accepted ones of the lines that a line feed ends, and a report on the bad ones
 pub record IsPassDue (task : LinesTask) (input passed report : List ℕ) : Type 0 where
   pub answers : List JudgedLine
   pub are_answers : AllZip (IsAnswer task.settings) (ended_lines task.settings.mark input) answers

@@ -3,12 +3,10 @@ ghost use Rattle.std.specs.Prelude.{◌≡◌, ◌+◌, ◌<◌, ◌≤◌, ◌^
 ghost use Rattle.jx_report.specs.Elements.{exit_past_verdict};
 ghost use Rattle.jx_ndjson_report.specs.inside.ElementTeller.{HasTaken, one_line};
 
-use crate::line_batch::SharedLines;
 use crate::task::ElementsTask;
-use crate::teller::Teller;
 use crate::words::add_element;
+use jx_drive::Reporter;
 use jx_ends::Exit;
-use jx_lex::Depth;
 use jx_ndjson::{ElementReader, ended_elements_of_a_reader};
 use jx_run::{ElementVerdict, JudgedElement};
 use std::alloc::{AllocError, Global};
@@ -28,7 +26,7 @@ fn add_told(
     add_element(ready, &task.front, element)
 }
 
-/// Bad where the element is not accepted, and otherwise the exit that there was before it.
+/// The exit after an element: bad where it is not accepted, and otherwise the exit that there was before it.
 pub fn exit_past(exit: Exit, verdict: ElementVerdict) -> Exit
     ensures { result ≡ exit_past_verdict exit verdict }
 {
@@ -58,7 +56,7 @@ impl Model for ElementTeller {
 }
 
 impl ElementTeller {
-    /// One that has taken no byte. Nothing is allocated.
+    /// A teller that has taken no byte. Nothing is allocated.
     pub fn new(alloc: Global, task: &ElementsTask) -> ElementTeller
         ensures taken { HasTaken task.now [] [] result }
         ensures ready { result.ready ≡ [] }
@@ -98,49 +96,12 @@ impl ElementTeller {
             }
         }
     }
-}
 
-impl Teller for ElementTeller {
-    ghost use Rattle.std.specs.Prelude.{◌+◌};
-    ghost use Rattle.jx_ndjson_report.specs.Elements.{ElementsOutput, IsDue};
-    ghost use Rattle.jx_ndjson_report.specs.inside.ElementTeller.{HasTaken};
-
-    type Task = ElementsTask;
-
-    ghost is_due = { IsDue };
-
-    ghost is_output = { ElementsOutput };
-
-    ghost has_taken = { HasTaken };
-
-    ghost ready = { λ t. t.ready };
-
-    ghost end = { λ t. t.elements.reader.start + t.elements.reader.count };
-
-    ghost limit = { λ task. task.settings.depth };
-
-    fn lines_taken_and_waiting() {
-        ended_elements_of_a_reader();
-    }
-
-    fn end(&self) -> usize {
-        self.elements.end()
-    }
-
-    fn depth(task: &ElementsTask) -> Depth {
-        task.settings.depth
-    }
-
-    fn shares() -> bool {
-        false
-    }
-
-    fn feed(
-        &mut self,
-        task: &ElementsTask,
-        slice: &[u8],
-        _shared: Option<SharedLines>,
-    ) -> Result<(), AllocError> {
+    /// Takes a slice element by element. It has an offset just past its last byte.
+    fn take_all(&mut self, task: &ElementsTask, slice: &[u8]) -> Result<(), AllocError>
+        requires fits { self.old.elements.reader.start + self.old.elements.reader.count + length slice.now < 2 ^ 64 }
+        ensures taken { OnOk result ((bytes given : List ℕ) → HasTaken task.now bytes given self.old → HasTaken task.now (bytes ++ slice.now) given self.new) }
+    {
         let mut at = 0;
         while at < slice.len() {
             at += self.take_step(task, &slice[at..])?;
@@ -148,11 +109,48 @@ impl Teller for ElementTeller {
         Ok(())
     }
 
+    /// Takes a slice after all bytes that it has taken.
+    pub fn take(&mut self, task: &ElementsTask, slice: &[u8]) -> Result<(), AllocError>
+        ensures { OnOk result ((bytes given : List ℕ) → HasTaken task.now bytes given self.old → HasTaken task.now (bytes ++ slice.now) given self.new) }
+    {
+        if slice.len() > usize::MAX - self.elements.end() {
+            return Err(AllocError);
+        }
+        self.take_all(task, slice)
+    }
+}
+
+impl Reporter<()> for ElementTeller {
+    ghost use Rattle.std.specs.Prelude.{[], ◌++◌};
+    ghost use Rattle.jx_drive.specs.Reports.{DueOrWhole};
+    ghost use Rattle.jx_ndjson_report.specs.Elements.{ElementsOutput, IsDue};
+    ghost use Rattle.jx_ndjson_report.specs.inside.ElementTeller.{HasTaken};
+
+    type Task = ElementsTask;
+
+    ghost is_due = { λ task _ _. IsDue task };
+
+    ghost is_begun = { λ task _ _. DueOrWhole (IsDue task) (ElementsOutput task) };
+
+    ghost is_output = { λ task _ _. ElementsOutput task };
+
+    ghost has_taken = { λ task _ _. HasTaken task };
+
+    ghost has_ended = { λ task _ _ bytes given exit t. ElementsOutput task bytes (given ++ t.ready) exit };
+
+    ghost ready = { λ t. t.ready };
+
+    ghost told = { λ _. [] };
+
+    fn what_waits_is_due() {
+        ended_elements_of_a_reader();
+    }
+
     fn ready(&self) -> &[u8] {
         &self.ready
     }
 
-    fn clear_ready(&mut self) {
+    fn clear(&mut self, _beside: &mut ()) {
         self.ready.clear();
     }
 

@@ -3,6 +3,7 @@
 #![tactic(auto)]
 
 mod element_teller;
+mod first_lines;
 mod laws;
 mod line_batch;
 mod line_passer;
@@ -10,10 +11,10 @@ mod line_teller;
 mod passing;
 mod reporting;
 mod task;
-mod teller;
 mod words;
 
 pub use element_teller::exit_past;
+pub use first_lines::report_first_lines;
 pub use laws::output_as_of_seq;
 pub use passing::pass_lines;
 pub use reporting::{report_lines, report_sequence};

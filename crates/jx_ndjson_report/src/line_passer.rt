@@ -5,8 +5,8 @@ ghost use Rattle.jx_ndjson_report.specs.inside.LinePasser.{HasPassed, kept_of, p
 
 use crate::line_teller::LineTeller;
 use crate::task::LinesTask;
-use crate::teller::Teller;
 use crate::words::is_good;
+use jx_drive::Reporter;
 use jx_ends::Exit;
 use jx_ndjson::{JudgedLine, unique_answer};
 use std::alloc::{AllocError, Global};
@@ -29,7 +29,7 @@ impl Model for LinePasser {
 }
 
 impl LinePasser {
-    /// One that has taken no byte. Nothing is allocated.
+    /// A passer that has taken no byte. Nothing is allocated.
     pub fn new(alloc: Global, task: &LinesTask) -> LinePasser
         ensures taken { HasPassed task.now [] [] [] result }
         ensures ready { result.ready ≡ [] }

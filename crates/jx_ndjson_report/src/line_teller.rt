@@ -12,17 +12,20 @@ ghost use Rattle.jx_ndjson_report.specs.inside.LineTeller.{HasTaken, HasTakenAs}
 ghost use Rattle.jx_ndjson_report.specs.inside.Shared.{IsShared};
 ghost use Rattle.jx_ndjson_report.specs.inside.LineSteps.{bad_line, exit_by};
 
-use crate::line_batch::SharedLines;
+use crate::line_batch::{SharedLines, judge_batch};
 use crate::task::LinesTask;
-use crate::teller::Teller;
 use crate::words::{add_counts, add_line, is_bad, is_good};
+use jx_crew::{Crew, Gate};
+use jx_drive::Reporter;
 use jx_ends::Exit;
-use jx_lex::{Depth, Span};
+use jx_lex::Span;
 use jx_ndjson::{
     JudgedLine, LineReader, Step, WholeLines, ended_lines_of_a_reader, texts_in_front,
 };
 use std::alloc::{AllocError, Global};
 use std::marker::Model;
+use std::sync::Wait;
+use std::thread::Threads;
 
 /// One more, where this holds.
 fn counted(count: usize, is_one: bool) -> usize
@@ -120,7 +123,7 @@ impl Model for LineTeller {
 }
 
 impl LineTeller {
-    /// One that has taken no byte. Nothing is allocated.
+    /// A teller that has taken no byte. Nothing is allocated.
     pub fn new(alloc: Global, task: &LinesTask) -> LineTeller
         ensures taken { HasTaken task.now [] [] result }
         ensures told { HasTold task.now.settings [] [] result.lines }
@@ -164,6 +167,7 @@ impl LineTeller {
         ensures taken { OnOk result ((bytes given more : List ℕ) (answers : List JudgedLine) → HasTaken task.now bytes given self.old → AreWhole task.now.settings.depth more answers whole.now
             → HasTaken task.now (bytes ++ more) given self.new) }
         ensures count { OnOk result (self.new.lines.reader.start + self.new.lines.reader.count ≡ self.old.lines.reader.start + whole.now.len) }
+        ensures bad { OnOk result (self.new.bad ≤ self.old.bad + length whole.now.bad) }
     {
         let bad = whole.bad();
         let good = whole.count() - bad.len();
@@ -182,6 +186,7 @@ impl LineTeller {
         ensures within { IfOk result (λ taken. taken ≤ length slice.now) }
         ensures taken { IfOk result (λ taken. (bytes given : List ℕ) → HasTaken task.now bytes given self.old → HasTaken task.now (bytes ++ take taken slice.now) given self.new) }
         ensures count { IfOk result (λ taken. self.new.lines.reader.start + self.new.lines.reader.count ≡ self.old.lines.reader.start + self.old.lines.reader.count + taken) }
+        ensures bad { OnOk result (self.new.bad ≤ self.old.bad) }
     {
         if !self.lines.is_between() {
             return Ok(0);
@@ -191,11 +196,18 @@ impl LineTeller {
         Ok(texts.len())
     }
 
-    /// How many bytes of the line that goes on it has taken.
+    /// The number of bytes that it has taken of the line that goes on.
     pub fn open_len(&self) -> usize
         ensures { result ≡ self.now.lines.reader.count }
     {
         self.lines.open_len()
+    }
+
+    /// How many of the lines that ended are bad.
+    pub fn bad(&self) -> usize
+        ensures { result ≡ self.now.bad }
+    {
+        self.bad
     }
 
     /// The last line, where no line feed ends it, if the input ends here.
@@ -229,6 +241,7 @@ impl LineTeller {
         ensures goes_on_there { IfOk result (λ step. 0 < self.new.lines.reader.count → self.new.lines.reader.start ≡ self.old.lines.reader.start) }
         ensures spans { IfOk result (λ step. IfSome step.line (λ judged. (judged.span.start ≡ self.old.lines.reader.start)
             × (judged.span.end + 1 ≡ self.old.lines.reader.start + self.old.lines.reader.count + step.taken))) }
+        ensures bad { OnOk result (self.new.bad ≤ self.old.bad + 1) }
     {
         let step = self.lines.feed(slice)?;
         match step.line {
@@ -247,6 +260,7 @@ impl LineTeller {
         ensures some { IfOk result (λ taken. 0 < length slice.now → 0 < taken) }
         ensures taken { IfOk result (λ taken. (bytes given : List ℕ) → HasTaken task.now bytes given self.old → HasTaken task.now (bytes ++ take taken slice.now) given self.new) }
         ensures count { IfOk result (λ taken. self.new.lines.reader.start + self.new.lines.reader.count ≡ self.old.lines.reader.start + self.old.lines.reader.count + taken) }
+        ensures bad { OnOk result (self.new.bad ≤ self.old.bad + 1) }
     {
         let step = self.read_line(task, slice)?;
         Ok(step.taken)
@@ -254,12 +268,13 @@ impl LineTeller {
 
     /// Takes lines in front of a slice that are texts, and what follows them up to and with the next line feed, or
     /// less. Answers how many bytes those are.
-    fn take_step(&mut self, task: &LinesTask, slice: &[u8]) -> Result<usize, AllocError>
+    pub fn take_step(&mut self, task: &LinesTask, slice: &[u8]) -> Result<usize, AllocError>
         requires fits { self.old.lines.reader.start + self.old.lines.reader.count + length slice.now < 2 ^ 64 }
         ensures within { IfOk result (λ taken. taken ≤ length slice.now) }
         ensures some { IfOk result (λ taken. 0 < length slice.now → 0 < taken) }
         ensures taken { IfOk result (λ taken. (bytes given : List ℕ) → HasTaken task.now bytes given self.old → HasTaken task.now (bytes ++ take taken slice.now) given self.new) }
         ensures count { IfOk result (λ taken. self.new.lines.reader.start + self.new.lines.reader.count ≡ self.old.lines.reader.start + self.old.lines.reader.count + taken) }
+        ensures bad { OnOk result (self.new.bad ≤ self.old.bad + 1) }
     {
         let passed = self.take_texts(task, slice)?;
         let taken = self.take_line(task, &slice[passed..])?;
@@ -316,60 +331,65 @@ impl LineTeller {
         self.take_judged(task, &slice[start..end], &shared.lines)?;
         self.take_alone(task, &slice[end..slice.len()])
     }
-}
 
-impl Teller for LineTeller {
-    ghost use Rattle.jx_ndjson_report.specs.Output.{IsDue, LinesOutput};
-    ghost use Rattle.jx_ndjson_report.specs.inside.LineTeller.{HasTaken};
-    ghost use Rattle.std.specs.Prelude.{◌+◌};
-
-    type Task = LinesTask;
-
-    ghost is_due = { IsDue };
-
-    ghost is_output = { LinesOutput };
-
-    ghost has_taken = { HasTaken };
-
-    ghost ready = { λ t. t.ready };
-
-    ghost end = { λ t. t.lines.reader.start + t.lines.reader.count };
-
-    ghost limit = { λ task. task.settings.depth };
-
-    fn lines_taken_and_waiting() {
-        ended_lines_of_a_reader();
-    }
-
-    fn end(&self) -> usize {
+    /// The offset just past the last byte that it has taken.
+    pub fn end(&self) -> usize
+        ensures { result ≡ self.now.lines.reader.start + self.now.lines.reader.count }
+    {
         self.lines.end()
     }
 
-    fn depth(task: &LinesTask) -> Depth {
-        task.settings.depth
-    }
-
-    fn shares() -> bool {
-        true
-    }
-
-    fn feed(
+    /// Takes a slice, some of whose lines the crew judges before that.
+    pub fn take<R: Threads + Wait + Sync, G: Gate + Sync>(
         &mut self,
+        crew: &Crew<'_, R, G>,
         task: &LinesTask,
         slice: &[u8],
-        shared: Option<SharedLines>,
-    ) -> Result<(), AllocError> {
-        match &shared {
-            None => self.take_alone(task, slice),
-            Some(shared) => self.take_shared(task, slice, shared),
+        piece: usize,
+    ) -> Result<(), AllocError>
+        ensures { OnOk result ((bytes given : List ℕ) → HasTaken task.now bytes given self.old → HasTaken task.now (bytes ++ slice.now) given self.new) }
+    {
+        if slice.len() > usize::MAX - self.end() {
+            return Err(AllocError);
         }
+        match judge_batch(crew, slice, task.settings.depth, piece.max(1)) {
+            None => self.take_alone(task, slice),
+            Some(shared) => self.take_shared(task, slice, &shared),
+        }
+    }
+}
+
+impl Reporter<()> for LineTeller {
+    ghost use Rattle.std.specs.Prelude.{[], ◌++◌};
+    ghost use Rattle.jx_drive.specs.Reports.{DueOrWhole};
+    ghost use Rattle.jx_ndjson_report.specs.Output.{IsDue, LinesOutput};
+    ghost use Rattle.jx_ndjson_report.specs.inside.LineTeller.{HasTaken};
+
+    type Task = LinesTask;
+
+    ghost is_due = { λ task _ _. IsDue task };
+
+    ghost is_begun = { λ task _ _. DueOrWhole (IsDue task) (LinesOutput task) };
+
+    ghost is_output = { λ task _ _. LinesOutput task };
+
+    ghost has_taken = { λ task _ _. HasTaken task };
+
+    ghost has_ended = { λ task _ _ bytes given exit t. LinesOutput task bytes (given ++ t.ready) exit };
+
+    ghost ready = { λ t. t.ready };
+
+    ghost told = { λ _. [] };
+
+    fn what_waits_is_due() {
+        ended_lines_of_a_reader();
     }
 
     fn ready(&self) -> &[u8] {
         &self.ready
     }
 
-    fn clear_ready(&mut self) {
+    fn clear(&mut self, _beside: &mut ()) {
         self.ready.clear();
     }
 

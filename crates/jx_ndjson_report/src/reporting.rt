@@ -1,18 +1,18 @@
 // Lines and elements are reported while an input is read.
-ghost use Rattle.std.specs.Prelude.{◌≡◌, ◌≢◌, ◌<◌, ◌≤◌, ◌↔◌, [], true, false, length, IfErr, IfOk, IfSome, IsErrOf, OnOk};
+ghost use Rattle.std.specs.Prelude.{◌≡◌, ◌≢◌, ◌<◌, ◌≤◌, ◌↔◌, ◌++◌, ℕ, List, true, false, IfErr, IfOk, IsErrOf, OnOk};
+ghost use Rattle.jx_drive.specs.Reports.{DueOrWhole, ReportsAll, WroteDue, WroteInPart, WroteLines};
 ghost use Rattle.jx_ndjson_report.specs.Elements.{ElementsOutput, IsDue as IsDueOfElements};
 ghost use Rattle.jx_ndjson_report.specs.Output.{IsDue, LinesOutput};
-ghost use Rattle.jx_ndjson_report.specs.Reports.{ReportsAll, WroteDue, WroteInPart, WroteLines};
-ghost use Rattle.jx_ndjson_report.specs.inside.Shared.{IsShared};
-ghost use Rattle.jx_ndjson_report.specs.inside.Steps.{IsAllWritten, WritesOn, WritesPart};
+ghost use Rattle.jx_ndjson_report.specs.inside.ElementTeller.{HasTaken as HasTakenElements};
+ghost use Rattle.jx_ndjson_report.specs.inside.LineTeller.{HasTaken};
 
 use crate::element_teller::ElementTeller;
-use crate::line_batch::{SharedLines, judge_batch};
 use crate::line_teller::LineTeller;
 use crate::task::{ElementsTask, LinesTask};
-use crate::teller::Teller;
 use jx_crew::{Crew, Gate};
-use jx_ends::{Exit, ReportFault, Sink, Source, write_whole};
+use jx_drive::report_by;
+use jx_ends::{Exit, ReportFault, Sink, Source};
+use std::alloc::AllocError;
 use std::sync::Wait;
 use std::thread::Threads;
 
@@ -21,92 +21,6 @@ pub(crate) const STEP: usize = 64 * 1024;
 
 /// The same where several workers share them.
 const SHARED_STEP: usize = 2 * 1024 * 1024;
-
-/// Has lines of a batch judged by the crew, where the teller takes such lines.
-fn shared_by<T: Teller, R: Threads + Wait + Sync, G: Gate + Sync>(
-    crew: &Crew<'_, R, G>,
-    task: &T::Task,
-    batch: &[u8],
-    piece: usize,
-) -> Option<SharedLines>
-    requires piece { 1 ≤ piece }
-    ensures { IfSome result (λ shared. IsShared (T.limit task.now) batch.now shared) }
-{
-    if T::shares() {
-        judge_batch(crew, batch, T::depth(task), piece)
-    } else {
-        None
-    }
-}
-
-/// Takes a batch after what was read, and writes the lines that are due then. It is also out of memory where the last
-/// byte has no offset.
-fn write_due<T: Teller, W: Sink>(
-    writer: &mut W,
-    task: &T::Task,
-    teller: &mut T,
-    batch: &[u8],
-    shared: Option<SharedLines>,
-) -> Result<(), ReportFault>
-    requires shared { IfSome shared (λ shared. IsShared (T.limit task.now) batch.now shared) }
-    requires writer { W.has_failed writer.old ≡ false }
-    ensures ok { OnOk result (WritesOn (T.has_taken task.now) T.ready (W.contents writer.old) (W.contents writer.new) batch.now teller.old teller.new) }
-    ensures going { OnOk result (W.has_failed writer.new ≡ false) }
-    ensures write { IsErrOf result ReportFault.Write ↔ (W.has_failed writer.new ≡ true) }
-    ensures beginning { IsErrOf result ReportFault.Write → WritesPart (T.has_taken task.now) (T.is_due task.now) (W.contents writer.old) (W.contents writer.new) batch.now teller.old }
-    ensures unwritten { IfErr result (λ fault. fault ≢ ReportFault.Write → writer.new ≡ writer.old) }
-    ensures unread { IfErr result (λ fault. fault ≢ ReportFault.Read) }
-    ensures uncut { IfErr result (λ fault. fault ≢ ReportFault.Pieces) }
-{
-    T::lines_taken_and_waiting();
-    if batch.len() > usize::MAX - teller.end() {
-        return Err(ReportFault::Memory);
-    }
-    teller.feed(task, batch, shared)?;
-    write_whole(writer, teller.ready())?;
-    teller.clear_ready();
-    Ok(())
-}
-
-/// Reads to the end of input, and writes each line once it is due: what a read gives is taken before the next one, which may
-/// wait.
-fn write_all_due<T: Teller, R: Threads + Wait + Sync, S: Source, W: Sink, G: Gate + Sync>(
-    crew: &Crew<'_, R, G>,
-    reader: &mut S,
-    writer: &mut W,
-    task: &T::Task,
-    teller: &mut T,
-    buffer: &mut [u8],
-    piece: usize,
-) -> Result<(), ReportFault>
-    requires piece { 1 ≤ piece }
-    requires reader { S.has_failed reader.old ≡ false }
-    requires writer { W.has_failed writer.old ≡ false }
-    requires room { 0 < length buffer.old }
-    requires taken { T.has_taken task.now [] [] teller.old }
-    requires ready { T.ready teller.old ≡ [] }
-    ensures ok { OnOk result (IsAllWritten (T.has_taken task.now) T.ready (S.remaining reader.old) (S.remaining reader.new) (W.contents writer.old) (W.contents writer.new) teller.new) }
-    ensures going { OnOk result ((S.has_failed reader.new ≡ false) × (W.has_failed writer.new ≡ false)) }
-    ensures read { IsErrOf result ReportFault.Read ↔ (S.has_failed reader.new ≡ true) }
-    ensures write { IsErrOf result ReportFault.Write ↔ (W.has_failed writer.new ≡ true) }
-    ensures due { IsErrOf result ReportFault.Read → WroteDue (T.is_due task.now) (S.remaining reader.old) (S.remaining reader.new) (W.contents writer.old) (W.contents writer.new) }
-    ensures lines { IsErrOf result ReportFault.Memory → WroteLines (T.is_due task.now) (S.remaining reader.old) (S.remaining reader.new) (W.contents writer.old) (W.contents writer.new) }
-    ensures beginning { IsErrOf result ReportFault.Write → WroteInPart (T.is_due task.now) (T.is_output task.now) (S.remaining reader.old) (S.remaining reader.new) (W.contents writer.old) (W.contents writer.new) }
-    ensures uncut { IfErr result (λ fault. fault ≢ ReportFault.Pieces) }
-{
-    T::lines_taken_and_waiting();
-    for _ in 0..u64::MAX {
-        match reader.read(buffer) {
-            Ok(0) => return Ok(()),
-            Ok(count) => {
-                let shared = shared_by::<T, R, G>(crew, task, &buffer[..count], piece);
-                write_due(writer, task, teller, &buffer[..count], shared)?;
-            }
-            Err(_) => return Err(ReportFault::Read),
-        }
-    }
-    Err(ReportFault::Memory)
-}
 
 /// How many bytes are read at a time, at most, for a crew.
 fn room_for<R, G>(crew: &Crew<'_, R, G>) -> usize
@@ -117,39 +31,6 @@ fn room_for<R, G>(crew: &Crew<'_, R, G>) -> usize
     } else {
         STEP
     }
-}
-
-/// Reads to the end of input, and writes the report of a reporter that has taken no byte. At most so many bytes are
-/// read at a time.
-fn report_by<T: Teller, R: Threads + Wait + Sync, S: Source, W: Sink, G: Gate + Sync>(
-    crew: &Crew<'_, R, G>,
-    reader: &mut S,
-    writer: &mut W,
-    task: &T::Task,
-    teller: &mut T,
-    room: usize,
-    piece: usize,
-) -> Result<Exit, ReportFault>
-    requires room { 0 < room }
-    requires piece { 1 ≤ piece }
-    requires reader { S.has_failed reader.old ≡ false }
-    requires writer { W.has_failed writer.old ≡ false }
-    requires taken { T.has_taken task.now [] [] teller.old }
-    requires ready { T.ready teller.old ≡ [] }
-    ensures ok { IfOk result (λ exit. ReportsAll (T.is_output task.now) (S.remaining reader.old) (S.remaining reader.new) (W.contents writer.old) (W.contents writer.new) exit) }
-    ensures read { IsErrOf result ReportFault.Read ↔ (S.has_failed reader.new ≡ true) }
-    ensures write { IsErrOf result ReportFault.Write ↔ (W.has_failed writer.new ≡ true) }
-    ensures due { IsErrOf result ReportFault.Read → WroteDue (T.is_due task.now) (S.remaining reader.old) (S.remaining reader.new) (W.contents writer.old) (W.contents writer.new) }
-    ensures lines { IsErrOf result ReportFault.Memory → WroteLines (T.is_due task.now) (S.remaining reader.old) (S.remaining reader.new) (W.contents writer.old) (W.contents writer.new) }
-    ensures beginning { IsErrOf result ReportFault.Write → WroteInPart (T.is_due task.now) (T.is_output task.now) (S.remaining reader.old) (S.remaining reader.new) (W.contents writer.old) (W.contents writer.new) }
-    ensures uncut { IfErr result (λ fault. fault ≢ ReportFault.Pieces) }
-{
-    T::lines_taken_and_waiting();
-    let mut buffer: Vec<u8> = vec![in crew.alloc; 0; room]?;
-    write_all_due(crew, reader, writer, task, teller, &mut buffer, piece)?;
-    let exit = teller.finish(task)?;
-    write_whole(writer, teller.ready())?;
-    Ok(exit)
 }
 
 /// Reads JSON Lines to the end of input. For each line that is not valid JSON it writes its number, its span and its
@@ -180,17 +61,22 @@ pub fn report_lines<R: Threads + Wait + Sync, S: Source, W: Sink, G: Gate + Sync
     // write fault a beginning of it.
     ensures due { IsErrOf result ReportFault.Read → WroteDue (IsDue task.now) (S.remaining reader.old) (S.remaining reader.new) (W.contents writer.old) (W.contents writer.new) }
     ensures lines { IsErrOf result ReportFault.Memory → WroteLines (IsDue task.now) (S.remaining reader.old) (S.remaining reader.new) (W.contents writer.old) (W.contents writer.new) }
-    ensures beginning { IsErrOf result ReportFault.Write → WroteInPart (IsDue task.now) (LinesOutput task.now) (S.remaining reader.old) (S.remaining reader.new) (W.contents writer.old) (W.contents writer.new) }
+    ensures beginning { IsErrOf result ReportFault.Write → WroteInPart (DueOrWhole (IsDue task.now) (LinesOutput task.now)) (S.remaining reader.old) (S.remaining reader.new) (W.contents writer.old) (W.contents writer.new) }
     ensures uncut { IfErr result (λ fault. fault ≢ ReportFault.Pieces) }
 {
+    let mut lines = LineTeller::new(crew.alloc, task);
+    let take = |lines: &mut LineTeller, slice: &[u8]| -> Result<(), AllocError>
+        ensures { OnOk result ((bytes given : List ℕ) → HasTaken task.entry.now bytes given lines.old → HasTaken task.entry.now (bytes ++ slice.now) given lines.new) }
+    { lines.take(crew, task, slice, piece) };
     report_by(
-        crew,
+        crew.alloc,
         reader,
         writer,
+        &mut (),
         task,
-        &mut LineTeller::new(crew.alloc, task),
+        &mut lines,
         room_for(crew),
-        piece,
+        &take,
     )
 }
 
@@ -216,16 +102,21 @@ pub fn report_sequence<R: Threads + Wait + Sync, S: Source, W: Sink, G: Gate + S
     // write fault a beginning of it.
     ensures due { IsErrOf result ReportFault.Read → WroteDue (IsDueOfElements task.now) (S.remaining reader.old) (S.remaining reader.new) (W.contents writer.old) (W.contents writer.new) }
     ensures lines { IsErrOf result ReportFault.Memory → WroteLines (IsDueOfElements task.now) (S.remaining reader.old) (S.remaining reader.new) (W.contents writer.old) (W.contents writer.new) }
-    ensures beginning { IsErrOf result ReportFault.Write → WroteInPart (IsDueOfElements task.now) (ElementsOutput task.now) (S.remaining reader.old) (S.remaining reader.new) (W.contents writer.old) (W.contents writer.new) }
+    ensures beginning { IsErrOf result ReportFault.Write → WroteInPart (DueOrWhole (IsDueOfElements task.now) (ElementsOutput task.now)) (S.remaining reader.old) (S.remaining reader.new) (W.contents writer.old) (W.contents writer.new) }
     ensures uncut { IfErr result (λ fault. fault ≢ ReportFault.Pieces) }
 {
+    let mut elements = ElementTeller::new(crew.alloc, task);
+    let take = |elements: &mut ElementTeller, slice: &[u8]| -> Result<(), AllocError>
+        ensures { OnOk result ((bytes given : List ℕ) → HasTakenElements task.entry.now bytes given elements.old → HasTakenElements task.entry.now (bytes ++ slice.now) given elements.new) }
+    { elements.take(task, slice) };
     report_by(
-        crew,
+        crew.alloc,
         reader,
         writer,
+        &mut (),
         task,
-        &mut ElementTeller::new(crew.alloc, task),
+        &mut elements,
         STEP,
-        1,
+        &take,
     )
 }

@@ -2,11 +2,11 @@
 use Rattle.std.specs.Prelude.{ℕ, List, ◌++◌, Option}
 use Rattle.jx_parallel.specs.Offsets.{IsContent, StandThere}
 
--- what a reader has read, and what was given of its reports
+-- the bytes that a reader has read, and those that were given of its reports
 abbrev pub Readings : Type 0 → Type 1
 Readings Reader = List ℕ → List ℕ → Reader → Type 0
 
--- whatever it had read from a text's start, it has read some bytes more; where the text is known, they are those that come next
+-- after any bytes that it had read from a text's start, it has read some more; where the text is known, they are those that come next
 abbrev pub GoesOn : {Reader : Type 0} → Option (List ℕ) → Readings Reader → Reader → Reader → Type 0
 GoesOn known has_read old new =
     (xs given : List ℕ) → StandThere known 0 xs → has_read xs given old → (more : List ℕ) × StandThere known 0 (xs ++ more) × has_read (xs ++ more) given new

@@ -1,4 +1,4 @@
--- What the contracts of this crate's own functions cite, and no public one.
+-- Definitions that the contracts of this crate's own functions cite, and no public one.
 pub mod Kept
 pub mod Lead
 pub mod Placed

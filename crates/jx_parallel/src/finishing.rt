@@ -1,4 +1,4 @@
-// What is left when the workers have ended.
+// The work that is left when the workers have ended.
 ghost use Rattle.std.specs.Prelude.{◌≡◌, ◌<◌, IfErr, IfOk, vec_len};
 ghost use Rattle.jx_parallel.specs.Faults.{ReadFailsBy};
 ghost use Rattle.jx_parallel.specs.Verdict.{IsVerdictOn};

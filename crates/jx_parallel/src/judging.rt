@@ -1,4 +1,4 @@
-// What each worker does with a text that is judged part by part.
+// The work of each worker on a text that is judged part by part.
 ghost use Rattle.std.specs.Prelude.{◌≡◌, length};
 
 use crate::check_fault::CheckFault;

@@ -44,14 +44,14 @@ impl<K: Known> Kept<K> {
         })
     }
 
-    /// Where its bytes stand.
+    /// The offset at which its bytes begin.
     pub fn at(&self) -> usize
         ensures { result ≡ self.now.at }
     {
         self.at
     }
 
-    /// Where its bytes end.
+    /// The offset just past its bytes.
     pub fn end(&self) -> usize
         ensures { result ≡ self.now.at + self.now.run.end }
     {

@@ -30,7 +30,7 @@ impl<K: Known> Model for Lead<K> {
 }
 
 impl<K: Known> Lead<K> {
-    /// Nothing is read yet.
+    /// A lead that has read nothing yet.
     pub fn new(alloc: Global, settings: &Settings) -> Lead<K>
         requires { settings.now ≡ K.settings }
         ensures { result.count ≡ 0 }
@@ -41,7 +41,7 @@ impl<K: Known> Lead<K> {
         }
     }
 
-    /// How many bytes it has read.
+    /// The number of bytes that it has read.
     pub fn end(&self) -> usize
         ensures { result ≡ self.now.count }
     {

@@ -56,7 +56,7 @@ impl<K: Ruled, L: PartReader> Placed<K, L> {
         }
     }
 
-    /// Where its bytes stand.
+    /// The offset at which its bytes begin.
     pub fn at(&self) -> usize
         ensures { result ≡ self.now.at }
     {

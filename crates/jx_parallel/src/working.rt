@@ -1,4 +1,4 @@
-// What each worker does.
+// The work of each worker.
 ghost use Rattle.std.specs.Prelude.{◌≡◌};
 
 use crate::book::{Book, follow_all, hand_over};

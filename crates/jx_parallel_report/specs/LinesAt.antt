@@ -1,4 +1,4 @@
--- What a report on lines that are read at offsets writes.
+-- The output of a report on lines that are read at offsets.
 use Rattle.std.specs.Prelude.{◌⊎◌, ℕ, List, Option}
 use Rattle.std.specs.Io.KnownBytes.{Appends}
 use Rattle.jx_ends.specs.declared.exit.Exit.{Exit}

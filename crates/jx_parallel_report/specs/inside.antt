@@ -1,3 +1,3 @@
--- What the contracts of this crate's own functions cite, and no public one.
+-- Definitions that the contracts of this crate's own functions cite, and no public one.
 pub mod Elements
 pub mod Lines

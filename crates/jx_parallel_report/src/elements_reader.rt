@@ -50,7 +50,7 @@ fn exit_by(before: Exit, behind: Exit) -> Exit
 }
 
 impl ElementsReader {
-    /// Before the first byte. Nothing is allocated.
+    /// A reader before the first byte. Nothing is allocated.
     pub fn new(alloc: Global, rule: &PartRule) -> ElementsReader
         ensures { HasRead rule.now [] result }
     {

@@ -32,7 +32,7 @@ pub(crate) trait Asked {
     /// How each line is read.
     ghost settings: { Settings };
 
-    /// What is written of lines.
+    /// The bytes that are written of lines.
     ghost told: { List JudgedLine → List ℕ };
 }
 
@@ -54,7 +54,7 @@ pub(crate) struct LinesReader<K: Asked> {
 }
 
 impl<K: Asked> LinesReader<K> {
-    /// Before the first byte. Nothing is allocated.
+    /// A reader before the first byte. Nothing is allocated.
     pub fn new(alloc: Global, rule: &PartRule, settings: &Settings) -> LinesReader<K>
         requires settings { K.settings ≡ settings.now }
         requires depth { rule.now.depth ≡ settings.now.depth }

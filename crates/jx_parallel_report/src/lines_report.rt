@@ -29,7 +29,10 @@ const FIRST: usize = 4;
 const MOST: usize = 64;
 
 /// The number of chunks of the next round.
-fn next_count(count: usize, is_full: bool) -> usize {
+fn next_count(count: usize, is_full: bool) -> usize
+    requires { count ≤ 64 }
+    ensures { result ≤ 64 }
+{
     if is_full {
         count / 2 + 1
     } else {
@@ -104,11 +107,13 @@ fn tell_round<F: SharedAt + Sync, K: Asked + Send, W: Sink, R: Threads + Wait + 
     reader: &mut LinesReader<K>,
 ) -> Result<bool, ReportAtFault<F::Fault>>
     requires room { 0 < length buffer.old }
+    requires round { count.old ≤ 64 }
     requires writer { W.has_failed writer.old ≡ false }
     requires settings { K.settings ≡ task.now.settings }
     requires told { K.told ≡ bad_lines task.now }
     requires none_wait { reader.old.tally.waiting ≡ [] }
     ensures length { length buffer.new ≡ length buffer.old }
+    ensures round { count.new ≤ 64 }
     ensures told { OnOk result ((written : Option (List ℕ)) → IsTold K.settings K.told rule.now (F.content file.now) written (W.contents writer.old) reader.old.tally
         → IsTold K.settings K.told rule.now (F.content file.now) written (W.contents writer.new) reader.new.tally) }
     ensures none_wait { OnOk result (reader.new.tally.waiting ≡ []) }

@@ -1,5 +1,5 @@
 // How many bytes a worker reads at a time.
-ghost use Rattle.std.specs.Prelude.{◌≤◌};
+ghost use Rattle.std.specs.Prelude.{◌≡◌, ◌≢◌, ◌≤◌};
 
 /// The size of a chunk of a command that asks for no size of its own.
 const UNASKED: usize = 64 * 1024;
@@ -14,7 +14,10 @@ const MOST: usize = 8 * 1024 * 1024;
 /// How many bytes a worker reads at a time, by the chunk of a command.
 pub(crate) fn step_of(piece: usize) -> usize
     requires { 1 ≤ piece }
-    ensures { 1 ≤ result }
+    ensures some { 1 ≤ result }
+    ensures most { result ≤ 8388608 }
+    ensures unasked { piece ≡ 65536 → result ≡ 262144 }
+    ensures asked { piece ≢ 65536 → piece ≤ 8388608 → result ≡ piece }
 {
     if piece == UNASKED {
         STEP

@@ -16,16 +16,16 @@ pub enum PartsFault {
     #[error("{0}")]
     Report(ReportFault),
     /// The stream of runs is empty.
-    #[error("jx: no runs")]
+    #[error("no runs")]
     NoRuns,
     /// A run is not taken. Runs are counted from 0.
-    #[error("jx: run {number}: {why}")]
+    #[error("run {number}: {why}")]
     Run {
         number: usize,
         why: RunRefusal,
     },
     /// The runs are those of the bytes from `start` up to `end`, and not of the text from `from` to `to`.
-    #[error("jx: the runs cover {start}..{end} and not {from}..{to}")]
+    #[error("the runs cover {start}..{end} and not {from}..{to}")]
     Elsewhere {
         start: usize,
         end: usize,

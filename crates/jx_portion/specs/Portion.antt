@@ -108,7 +108,7 @@ abbrev pub OnlyParts : DecodeFault → Type 0 → Type 0
 OnlyParts refused.Memory P = Unit {0}
 OnlyParts (refused.Fault f) P = (f ≡ Malformed field.Parts) × (P → ⊥)
 
--- what the bytes say, where a run has it; else that none has
+-- the answer that the bytes give, where a run has it; else that none has
 abbrev pub IsAnswer : Result PortionValue DecodeFault → Result (ℕ × RunFields) RunFault → Type 0
 IsAnswer (Ok p) (Ok x) = (p ≡ portion_in x.0 x.1) × IsRun x.0 x.1
 IsAnswer (Ok p) (Err g) = ⊥

@@ -29,7 +29,7 @@ abbrev pub ◌>>=◌ : {A B : Type 0} → Result A RunFault → (A → Result B 
 (Ok x) >>= f = f x
 (Err e) >>= f = Err e
 
--- what a call returned, seen by view, is what reading gives, unless memory ran out
+-- the result of a call, seen by view, is that of reading, unless memory ran out
 abbrev pub Fails : {Y : Type 0} → DecodeFault → Result Y RunFault → Type 0
 Fails refused.Memory reading = Unit {0}
 Fails (refused.Fault f) reading = reading ≡ Err f
@@ -178,7 +178,7 @@ head_at bytes = do
   depth ← depth_at size.1
   Ok (record { size = size.0; depth = depth.0 }, depth.1)
 
--- what stands up to the digest, which is that of all bytes of the run file before it
+-- the bytes up to the digest, which is that of all bytes of the run file before it
 unfoldable pub sealed_at : List ℕ → List ℕ → Result (List ℕ) RunFault
 sealed_at bytes rest =
     if nat_lt (length bytes) 32 || nat_lt (length rest) 32 then Err (Malformed field.Size)
@@ -196,7 +196,7 @@ body_at bytes = do
 abbrev pub IsSealed : List ℕ → Type 0
 IsSealed bytes = (x : ℕ × List ℕ) × (body_at bytes ≡ Ok x)
 
--- what a run file says
+-- the run that a run file has
 unfoldable pub record_at : List ℕ → Result (ℕ × RunFields) RunFault
 record_at bytes = do
   body ← body_at bytes

@@ -20,7 +20,7 @@ use Rattle.jx_reduce.specs.Entries.{place}
 unfoldable pub number : ℕ → List ℕ
 number n = to_be_bytes w64 n
 
--- what may be absent begins with a flag
+-- a value that may be absent begins with a flag
 abbrev pub optional : {A : Type 0} → (A → List ℕ) → Option A → List ℕ
 optional spell None = 0 ∷ []
 optional spell (Some x) = 1 ∷ spell x

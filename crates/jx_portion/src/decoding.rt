@@ -73,9 +73,9 @@ pub fn decode(alloc: Global, bytes: &[u8]) -> Result<Portion, DecodeFault>
     ensures sealed { IfErr result (λ fault. fault ≡ DecodeFault.Memory → IsSealed bytes.now) }
     // Nothing else is read.
     ensures found { IfOk result (IsSaidBy bytes.now) }
-    // What is written so is read, unless memory runs out.
+    // A run file that is written so is read, unless memory runs out.
     ensures only { (d : ℕ) (r : RunFields) → IsSpelt d r bytes.now → IsAnswer result (Ok (d, r)) }
-    // What was encoded is the summary of the same bytes again.
+    // The summary that was encoded is one of the same bytes again.
     ensures reads { (xs : List ℕ) (f : Option ℕ) (d : ℕ) → IsRecord xs f d bytes.now → IfOk result (IsPortion xs f d) }
     ensures refuses { (xs : List ℕ) (f : Option ℕ) (d : ℕ) → IsRecord xs f d bytes.now → IfErr result IsMemory }
 {

@@ -71,7 +71,7 @@ fn sealed_of(alloc: Global, depth: Depth, body: &[u8]) -> Result<Vec<u8>, AllocE
 }
 
 impl Portion {
-    /// Its run file. It fails only when out of memory.
+    /// The run file. It fails only when out of memory.
     pub fn encode(&self, alloc: Global) -> Result<Vec<u8>, AllocError>
         ensures { IfOk result (λ r. (bytes : List ℕ) (f : Option ℕ) (d : ℕ) → IsPortion bytes f d self.now → IsRecord bytes f d r.items) }
     {

@@ -119,7 +119,7 @@ impl Portion {
         self.run.depth()
     }
 
-    /// Whether it may be joined with one to its right; if not, why.
+    /// Checks whether it may be joined with one to its right. The fault says why not.
     pub fn meets(&self, right: &Portion) -> Result<(), Mismatch>
         ensures meets { IsOk result ↔ Meets self.now right.now }
         ensures why { IfErr result (IsMismatch self.now right.now) }

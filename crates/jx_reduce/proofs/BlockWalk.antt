@@ -1,15 +1,12 @@
 -- The brackets of a block, walked one by one.
-use Rattle.std.proofs.Common.{◌≡◌, ◌⊎◌, inl, inr, ℕ, zero, suc, ◌+◌, ◌-◌, ◌/◌, ◌^◌, ◌<◌, ◌≤◌, Bool, true, false, List, ◌∷◌, ◌++◌, length, Option, Some, None, refl, ap, sym, subst, ◌∙◌, arith, bit_or}
+use Rattle.std.proofs.Common.{◌≡◌, ◌⊎◌, inl, inr, ℕ, zero, suc, ◌+◌, ◌-◌, ◌<◌, ◌≤◌, Bool, true, false, List, ◌∷◌, ◌++◌, length, Option, Some, None, refl, ap, sym, subst, ◌∙◌, arith, bit_or}
 use Rattle.std.specs.Prelude.{◌==◌, ◌||◌, IfSome}
-use Rattle.std.proofs.lemmas.Bool.{cases_lt, or_cases, or_parts}
+use Rattle.std.proofs.lemmas.Bool.{or_cases, or_parts}
 use Rattle.std.proofs.lemmas.List.{length-append}
-use Rattle.std.proofs.lemmas.Nat.{pow_pos}
-use Rattle.std.proofs.lemmas.Nat.Bits.{bit_at_above, ones_shr}
 use Rattle.jx_lex.specs.inside.Bits.{bit}
 use Rattle.jx_lex.proofs.Bits.{bit-or}
 use Rattle.jx_block.specs.Listed.{is_set}
 use Rattle.jx_block.specs.declared.kinds.TokenKinds.{TokenKinds}
-use Rattle.jx_block.proofs.Words.{bit-low}
 use Rattle.jx_reduce.specs.Bits.{holder_of, in_word}
 use Rattle.jx_reduce.specs.Read.{top, without_top}
 use Rattle.jx_reduce.specs.inside.Blocks.{container, Steps, along, array_opens, array_closes, object_opens, object_closes, Walks}
@@ -21,23 +18,6 @@ pub contained : (x : ℕ) → x < 2 → holder_of x ≡ container (x == 1)
 contained zero lt = refl
 contained (suc zero) lt = refl
 contained (suc (suc x)) lt = absurd (omega arith)
-
--- the lowest bits of a word, up to one of them
-pub low_at : (k j : ℕ) → k < 64 → j ≤ k → bit ((2 ^ 64 - 1) / 2 ^ (63 - k)) j ≡ true
-low_at k j lt le =
-    let e : 64 - (k + 1) ≡ 63 - k = omega arith in
-    ap (λ m. bit ((2 ^ 64 - 1) / 2 ^ m) j) (sym e) ∙ bit-low (k + 1) j (omega arith) (omega arith)
-
-pub high_at : (k j : ℕ) → k < 64 → k < j → bit ((2 ^ 64 - 1) / 2 ^ (63 - k)) j ≡ false
-unfolding bit
-high_at k j lt more =
-    let e : 64 - (63 - k) ≡ k + 1 = omega arith in
-    let w : (2 ^ 64 - 1) / 2 ^ (63 - k) ≡ 2 ^ (k + 1) - 1 = ones_shr 64 (63 - k) (omega arith) ∙ ap (λ m. 2 ^ m - 1) e in
-    ap (λ n. n == 1) (bit_at_above ((2 ^ 64 - 1) / 2 ^ (63 - k)) (k + 1) j (omega (arith, w, pow_pos (k + 1))) (omega arith))
-
-pub or_none : (a : Bool) → (a || false) ≡ a
-or_none true = refl
-or_none false = refl
 
 -- ---- one bracket
 
@@ -124,11 +104,3 @@ walks-over t o p most s u w from k le lt walks none inner same step =
     let d : from + (k - from) ≡ k = omega arith in
     let on = walks-on t o most s u from (k - from) walks (λ j low high. none j low (omega arith)) (λ j low high. inner j low (omega arith)) in
     subst (λ n. Walks t p most s n w) e (u, walks-same t o p most k s u (λ j lt. same j (omega arith)) (subst (λ n. Walks t o most s n u) d on), step)
-
--- the lowest bit that is left stands behind all that were walked over
-pub not_before : (left from k : ℕ) → ((j : ℕ) → j < from → bit left j ≡ false) → bit left k ≡ true → from ≤ k
-not_before left from k none set = by_order (cases_lt k from)
-  where
-    by_order : (k < from) ⊎ (from ≤ k) → from ≤ k
-    by_order (inr le) = le
-    by_order (inl lt) = let clash : true ≡ false = sym set ∙ none k lt in cc

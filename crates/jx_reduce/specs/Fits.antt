@@ -10,7 +10,7 @@ pub record IsOfSize (d : ℕ) (r : Form) : Type 0 where
   pub opens : length r.opens ≤ d
   pub heights : length r.heights ≤ d + 1
 
--- what a depth allows, and what joins rely on
+-- the bounds that a depth sets, and the facts on which joins rely
 pub record Fits (d : ℕ) (r : Form) : Type 0 where
   pub levels : length r.ended ≤ d
   pub opens : length r.opens ≤ d

@@ -17,7 +17,7 @@ pub record Form : Type 0 where
   pub exit : Option Entry
   pub heights : List ℕ
 
--- what the levels lead to, whatever the depth
+-- the reading to which the levels lead, for any depth
 pub data Plain : Type 0 where
   halt : ℕ → Plain
   go : Expect → List Holder → Plain
@@ -43,7 +43,7 @@ abbrev pub along : List EndedLevel → List Holder → (List Holder → Plain) �
 along [] s k = k s
 along (x ∷ xs) s k = unless (end_fault_of x (top s)) (along xs (without_top s) k)
 
--- what follows in the last level
+-- the reading that follows in the last level
 abbrev pub within : Level → List Holder → (List Holder → Plain) → List Holder → Plain
 within f opens k s = unless (fault_of f (top s)) (k (opens ++ s))
 

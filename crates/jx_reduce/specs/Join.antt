@@ -27,7 +27,7 @@ closed a e = record { array = first_of a.array e.array; object = first_of a.obje
 abbrev pub filled_end : EndedLevel → Level
 filled_end e = record { array = Some (unwrap_or e.array e.bottom); object = Some (unwrap_or e.object e.bottom); bottom = Some e.bottom }
 
--- what stands in a reduced form after its levels that end
+-- the part of a reduced form after its levels that end
 pub record Tail : Type 0 where
   pub last : Level
   pub opens : List Holder

@@ -27,7 +27,7 @@ pub record IsPartRead (old new : Known) (marks : List Mark) : Type 0 where
   pub within : count ≤ length marks
   pub reading : new.reading ≡ read old.depth (take count marks) old.reading
 
--- what it has seen of the tokens of a scan: the ends are ignored, but that they begin with the depth, which therefore
+-- the tokens of a scan that it has seen: the ends are ignored, but that they begin with the depth, which therefore
 -- stays
 pub record HasSeen (marks : List Mark) (ends : List ℕ) (stack : Known) : Type 0 where
   pub read : HasRead marks stack

@@ -6,7 +6,7 @@ use Rattle.jx_reduce.specs.declared.table.holder.Holder.TheVariants.{Bottom}
 use Rattle.jx_reduce.specs.declared.table.expect.Expect.{Expect}
 use Rattle.jx_lex.specs.declared.alphabet.mark.Mark.{Mark}
 
--- what a reading leads to; open containers stand innermost first
+-- the end of a reading; open containers stand innermost first
 pub data Reading : Type 0 where
   went : Expect → List Holder → Reading
   stopped : ℕ → Reading

@@ -12,6 +12,6 @@ depth_of r = r.depth
 abbrev pub form_in : Reduced → Form
 form_in r = form_of r.levels
 
--- what the tokens do over these open containers, innermost first
+-- the reading of the tokens over these open containers, innermost first
 abbrev pub answer_of : Reduced → List Holder → Reading
 answer_of r s = acts r.depth (form_of r.levels) s

@@ -6,7 +6,7 @@ use Rattle.jx_lex.specs.declared.alphabet.mark.Mark.{Mark}
 
 pub record ReducerValue : Type 0 where
   pub depth : ℕ
-  -- what the tokens lead to
+  -- the structure of the tokens
   pub structure : StructureValue
   -- the offset of the last token that changed more than what is open and what may stand next, if any
   pub last : Option ℕ

@@ -41,7 +41,7 @@ entry_of Name = AnyName
 entry_of Colon = AnyColon
 entry_of After = AnyAfter
 
--- what the tokens do from this expectation, over these open containers, innermost first
+-- the reading of the tokens from this expectation, over these open containers, innermost first
 abbrev pub answer : Forms → Expect → List Holder → Reading
 answer f e s = acts f.depth (form_at f (entry_of e)) s
 

@@ -14,13 +14,13 @@ pub record StructureValue : Type 0 where
   pub head : List Mark
   pub tail : Option Form
 
--- what the form does, whatever is expected; where there is none the reading stays where it led to
+-- the reading by the form, for any expectation; where there is none the reading stays where it led to
 abbrev pub behind : ℕ → Option Form → Expect → List Holder → Reading
 behind d None e s = went e s
 behind d (Some t) e s = acts d t s
 
--- what the tokens do from this expectation, over these open containers, innermost first: those of the head by the table
--- of moves, and those after it by the form
+-- the reading of the tokens from this expectation, over these open containers, innermost first: those of the head by
+-- the table of moves, and those after it by the form
 abbrev pub answer : StructureValue → Expect → List Holder → Reading
 answer f e s = then_by (behind f.depth f.tail) (read f.depth f.head (went e s))
 

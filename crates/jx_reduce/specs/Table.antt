@@ -54,7 +54,7 @@ next_of True e _ = where_value After e
 next_of False e _ = where_value After e
 next_of Null e _ = where_value After e
 
--- what a token does to the list of open containers
+-- the change that a token makes to the list of open containers
 pub data Change : Type 0 where
   same : Change
   added : Holder → Change

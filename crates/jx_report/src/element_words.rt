@@ -52,7 +52,7 @@ pub fn element_at(elements: &[JudgedElement], number: usize) -> JudgedElement
     elements[number]
 }
 
-/// Good where each of the elements is accepted.
+/// The exit for elements: good where each of them is accepted.
 pub fn exit_of_elements(elements: &[JudgedElement]) -> Exit
     ensures { result ≡ exit_past_judged Good elements.now }
 {

@@ -15,7 +15,7 @@ pub(crate) enum NameCheck {
 }
 
 impl NameCheck {
-    /// Before the first byte.
+    /// The check before the first byte.
     pub fn new(alloc: Global, settings: &Settings) -> NameCheck
         ensures { AreCompared settings.now [] result }
     {
@@ -40,7 +40,7 @@ impl NameCheck {
         }
     }
 
-    /// Why the bytes that were read are refused, where names have to be unique and they are.
+    /// The refusal of the bytes that were read, where names have to be unique and the bytes are refused.
     pub fn into_refusal(self) -> Result<Option<Refusal>, AllocError>
         ensures { IfOk result (λ refusal. (settings : Settings) (text : List ℕ) → AreCompared settings text self → IsRefusalByNames settings text refusal) }
     {

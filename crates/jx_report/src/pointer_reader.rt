@@ -67,7 +67,7 @@ pub(crate) struct PointerReader<'p> {
 }
 
 impl<'p> PointerReader<'p> {
-    /// Before the first byte.
+    /// A reader before the first byte.
     pub fn new(
         alloc: Global,
         settings: &Settings,
@@ -85,7 +85,7 @@ impl<'p> PointerReader<'p> {
         })
     }
 
-    /// How many bytes were read.
+    /// The number of bytes that were read.
     pub fn end(&self) -> usize
         ensures end { result ≡ fed.end_of self.now.finder }
         ensures length { (settings : Settings) (spelt : List (List ℕ)) (text : List ℕ) → AreLookedUp settings spelt text self.now → result ≡ length text }

@@ -40,8 +40,8 @@ pub(crate) enum Reading<'p> {
 }
 
 impl<'p> Reading<'p> {
-    /// Before the first byte, where the task needs no byte once it was read. The pointers are those of the task, where they are
-    /// looked up in what is read.
+    /// The reading before the first byte, where the task needs no byte once it was read. The pointers are those of the task, where they are looked up
+    /// in what is read.
     pub fn of(
         alloc: Global,
         command: &Command,
@@ -68,7 +68,7 @@ impl<'p> Reading<'p> {
         }
     }
 
-    /// How many bytes were read.
+    /// The number of bytes that were read.
     pub fn end(&self) -> usize
         ensures end { result ≡ end_of self.now }
         ensures length { (task : Task) (settings : Settings) (text : List ℕ) → IsReadingOf task settings text self.now → result ≡ length text }

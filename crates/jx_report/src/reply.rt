@@ -31,7 +31,7 @@ pub enum Reply {
 }
 
 impl Reply {
-    /// How the program ends when this is written.
+    /// The exit of the program when this is written.
     pub fn exit(&self) -> Exit
         ensures { result ≡ reply_exit self.now }
     {

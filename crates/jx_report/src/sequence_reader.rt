@@ -73,7 +73,7 @@ fn without_mark(seen: Front, mut judged: Vec<JudgedElement>) -> Vec<JudgedElemen
 }
 
 impl SequenceReader {
-    /// Before the first byte.
+    /// A reader before the first byte.
     pub fn new(alloc: Global, command: &Command) -> SequenceReader
         ensures { IsSequenceRead command.now.settings [] result }
     {
@@ -89,7 +89,7 @@ impl SequenceReader {
         }
     }
 
-    /// How many bytes were read.
+    /// The number of bytes that were read.
     pub fn end(&self) -> usize
         ensures end { result ≡ self.now.reader.start + self.now.reader.count }
         ensures length { (settings : Settings) (text : List ℕ) → IsSequenceRead settings text self.now → result ≡ length text }

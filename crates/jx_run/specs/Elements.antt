@@ -18,12 +18,12 @@ part at bytes = record { at = at; bytes = bytes }
 abbrev pub part_span : Part → Span
 part_span p = record { start = p.at; end = p.at + length p.bytes }
 
--- what is before the first separator, or all where there is none
+-- the bytes before the first separator, or all where there is none
 abbrev pub before_separator : List ℕ → List ℕ
 before_separator [] = []
 before_separator (b ∷ bytes) = if is_separator b then [] else b ∷ before_separator bytes
 
--- what follows each separator, up to the next one or to the end, in order; the bytes stand from an offset on
+-- the part after each separator, up to the next one or to the end, in order; the bytes stand from an offset on
 abbrev pub after_separators : ℕ → List ℕ → List Part
 after_separators at [] = []
 after_separators at (b ∷ bytes) =

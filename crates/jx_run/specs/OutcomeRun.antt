@@ -22,7 +22,7 @@ pub record OutcomeRunValue : Type 0 where
   pub transitions : List Transition
   pub structures : List StructureValue
 
--- what reading leads to from one state: where it ends, and what its tokens lead to
+-- the result of reading from one state: where it ends, and the reading to which its tokens lead
 pub record Entries : Type 0 where
   pub exit : LexExit
   pub marks : StructureValue
@@ -42,7 +42,7 @@ entries_of structures (Some w) = with_exit w.exit (slice_get structures w.struct
 abbrev pub entries_at : OutcomeRunValue → LexState → Option Entries
 entries_at run s = entries_of run.structures (slice_get run.transitions (ordinal s))
 
--- what reading from an expectation leads to, over open containers, innermost first
+-- the reading from an expectation, over open containers, innermost first
 abbrev pub outcome_of : Entries → Expect → List Holder → TextReading
 outcome_of e expect holders = at_exit (exit_of e.exit) (answer e.marks expect holders)
 
@@ -73,7 +73,7 @@ pub record IsFormWithin (limit start end : ℕ) (f : StructureValue) : Type 0 wh
   pub depth : f.depth ≡ limit
   pub offsets : SpansIn start end f
 
--- what every run keeps
+-- the invariant of each run
 pub record IsWellFormed (run : OutcomeRunValue) : Type 0 where
   pub order : run.start ≤ run.end
   pub all : length run.transitions ≡ 32

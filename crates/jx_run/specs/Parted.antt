@@ -5,8 +5,7 @@ use Rattle.jx_summary.specs.declared.span.Span.{Span}
 use Rattle.jx_run.specs.Elements.{Part, before_separator, after_separators, filled}
 use Rattle.jx_run.specs.Tree.{span}
 
--- what follows the first separator: what is kept of the parts that a further separator ends, and the part after the
--- last separator
+-- the parts after the first separator: the summaries of those that a further separator ends, and the part after the last separator
 pub record MarkedValue (P F : Type 0) : Type 0 where
   pub done : List F
   pub after : P

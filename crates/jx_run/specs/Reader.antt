@@ -7,11 +7,11 @@ use Rattle.jx_run.specs.Front.{agreed}
 use Rattle.jx_run.specs.Reading.{TextReading, went, stopped, too_deep, read_text}
 use Rattle.jx_run.specs.Settings.{byte_order_mark}
 
--- what the bytes of a text lead to, with what may stand in front of it
+-- the outcome of the bytes of a text, with what may stand in front of it
 pub data Outcome : Type 0 where
   -- they are so many bytes, fewer than three, that begin a byte order mark, which may yet be ignored
   in_front : ℕ → Outcome
-  -- what the bytes after the front lead to
+  -- the reading of the bytes after the front
   reads : TextReading → Outcome
 
 -- where the bytes, which stand from an offset on, begin with so many of a byte order mark's: a token is skipped, and

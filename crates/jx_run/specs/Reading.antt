@@ -9,8 +9,8 @@ use Rattle.jx_reduce.specs.declared.table.expect.Expect.TheVariants.{Value}
 use Rattle.jx_reduce.specs.declared.table.holder.Holder.{Holder}
 use Rattle.jx_reduce.specs.Read.{Reading, read as read_marks}
 
--- what reading leads to: the configuration at the end, with the open containers innermost first, or the first fault; it
--- is one of depth where a container would be opened while as many as the depth are open
+-- the end of reading: the configuration there, with the open containers innermost first, or the first fault; it is one
+-- of depth where a container would be opened while as many as the depth are open
 pub data TextReading : Type 0 where
   went : LexState → Expect → List Holder → TextReading
   stopped : ℕ → TextReading

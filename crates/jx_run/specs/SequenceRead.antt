@@ -23,7 +23,7 @@ StartsWithSeparator bytes = before_separator bytes ≡ []
 abbrev pub EndsWithSeparator : List ℕ → Type 0
 EndsWithSeparator bytes = (front : List ℕ) × (bytes ≡ front ++ 30 ∷ [])
 
--- what these bytes of a sequence lead to: each element that a separator ends; of the one that goes on, what a reader
+-- the outcome of these bytes of a sequence: each element that a separator ends; of the one that goes on, what a reader
 -- has read and whether its last byte is open
 pub record AreRead (limit : ℕ) (bytes : List ℕ) (judged : List JudgedElement) (reader : ReaderValue) (open_ended : Bool) : Type 0 where
   pub ended : List Part

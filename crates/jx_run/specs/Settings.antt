@@ -13,7 +13,7 @@ use Rattle.jx_run.specs.Text.{IsDocument}
 abbrev pub byte_order_mark : List ℕ
 byte_order_mark = 0xef ∷ 0xbb ∷ 0xbf ∷ []
 
--- what may stand in front of a text (RFC 8259, section 8.1)
+-- the bytes that may stand in front of a text (RFC 8259, section 8.1)
 abbrev pub IsFront : FrontMark → List ℕ → Type 0
 IsFront on_mark.Refused front = front ≡ []
 IsFront on_mark.Ignored front = (front ≡ []) ⊎ (front ≡ byte_order_mark)

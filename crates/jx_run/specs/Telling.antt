@@ -43,7 +43,7 @@ standing_of (reads (went s e o)) = Reading.went e o
 standing_of (reads (stopped at)) = Reading.stopped at
 standing_of (reads (too_deep at)) = Reading.too_deep at
 
--- what a sink awaits after what the bytes before led to; after a fault it is given nothing
+-- the event that a sink awaits after the outcome of the bytes before; after a fault it is given nothing
 abbrev pub AwaitsBehind : Awaits → Outcome → Type 0
 AwaitsBehind awaits (in_front n) = awaits false
 AwaitsBehind awaits (reads (went s e o)) = awaits (in_token s)
@@ -89,7 +89,7 @@ pub record SeesPast (old new : Seen) (depth : ℕ) (before : Reading) (marks : L
   pub marks_are : marks ≡ told ++ more
   pub ends_are : ends ≡ told_ends ++ more_ends
   pub seen : Grows old new told told_ends
-  -- what was given is no fault
+  -- the tokens that were given have no fault
   pub past : (IsFault before → ⊥) → IsFault (read depth told before) → ⊥
   -- the first token that was not given is one
   pub next : (m : Mark) (rest : List Mark) → more ≡ m ∷ rest → IsFault (read depth (told ++ m ∷ []) before)

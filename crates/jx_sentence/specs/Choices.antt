@@ -93,7 +93,7 @@ are_named choices byte_class = list_any (λ choice. names choice byte_class) cho
 
 -- ---- the table
 
--- what goes on with a token
+-- the choices that go on with a token
 abbrev pub choices_inside : LexState → List Choice
 choices_inside state.Gap = []
 choices_inside state.Str = Character ∷ []
@@ -137,7 +137,7 @@ may_end state.Frac = true
 may_end state.Exp = true
 may_end _ = false
 
--- what may stand between tokens
+-- the choices that may stand between tokens
 abbrev pub choices_between : Expect → Holder → List Choice
 choices_between expect.Value top = Value ∷ Blank ∷ []
 choices_between expect.ArrayFirst holder.Array = Value ∷ ArrayEnd ∷ Blank ∷ []

@@ -122,8 +122,8 @@ fn choices_between(expect: Expect, top: Holder) -> &'static [Choice]
     }
 }
 
-/// All that may stand where the lexical machine is in this state, by what may stand next between tokens and the innermost
-/// open container (RFC 8259, sections 2 to 7).
+/// The choices that may stand where the lexical machine is in this state, by what may stand next between tokens and the
+/// innermost open container (RFC 8259, sections 2 to 7).
 pub fn choices_for(state: LexState, expect: Expect, top: Holder) -> Choices
     ensures { choices_of result ≡ choices state expect top }
 {

@@ -37,7 +37,7 @@ impl Place {
     }
 }
 
-/// Where the byte at an offset stands, or the end of the text.
+/// The place of the byte at an offset, or of the end of the text.
 pub fn place_of(text: &[u8], at: usize) -> Place
     requires { at ≤ length text.now }
     ensures { result ≡ place_at text.now at }

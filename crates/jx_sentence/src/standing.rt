@@ -5,7 +5,7 @@ ghost use Rattle.jx_lex.specs.Lex.{lex};
 ghost use Rattle.jx_lex.specs.declared.alphabet.state.LexState.TheVariants.{Gap};
 ghost use Rattle.jx_reduce.specs.Read.{top};
 ghost use Rattle.jx_run.specs.Laws.{BeginsAtSomeDepth};
-ghost use Rattle.jx_sentence.specs.Choices.{are_named, choices_of};
+ghost use Rattle.jx_sentence.specs.Choices.{are_named, choices, choices_of};
 ghost use Rattle.jx_sentence.specs.Standing.{StandsBehind, last_at};
 ghost use Rattle.jx_sentence.specs.declared.standing.Standing.{Standing};
 
@@ -70,9 +70,9 @@ pub fn innermost(mut holders: Vec<Holder>) -> Holder
     }
 }
 
-/// Where a reading stands after the bytes of a text from one offset up to another, from the start of a text on; none
-/// just where it meets a fault among them. The last token is the one that the last token start begins; without a token start
-/// it is at the first offset. Fails only when out of memory.
+/// The standing of a reading after the bytes of a text from one offset up to another, from the start of a text on; none just where it meets a fault
+/// among them. The last token is the one that the last token start begins; without a token start it is at the first offset. Fails only when out of
+/// memory.
 pub fn standing_behind(
     alloc: Global,
     text: &[u8],
@@ -107,10 +107,10 @@ pub fn standing_behind(
     }))
 }
 
-/// All that may stand where a reading stands: with a byte that is named, and with no other, the bytes before it begin a text
-/// of some depth.
+/// The choices that may stand where a reading stands: with a byte that is named, and with no other, the bytes before it begin a text of some depth.
 pub fn choices_at(standing: &Standing) -> Choices
-    ensures { (limit from : ℕ) (bytes : List ℕ) (byte : ℕ) → StandsBehind limit from bytes standing.now
+    ensures value { choices_of result ≡ choices standing.now.state standing.now.expect standing.now.top }
+    ensures allowed { (limit from : ℕ) (bytes : List ℕ) (byte : ℕ) → StandsBehind limit from bytes standing.now
         → (are_named (choices_of result) (class_at byte) ≡ true) ↔ BeginsAtSomeDepth (bytes ++ byte ∷ []) }
 {
     reader_and_grammar();

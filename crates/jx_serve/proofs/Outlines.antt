@@ -1,5 +1,5 @@
 -- The first rows of those that begin before an offset.
-use Rattle.std.proofs.Common.{◌≡◌, ℕ, ◌≤◌, min, List, length, map, take, sym, ap, ◌∙◌, arith, inl, inr}
+use Rattle.std.proofs.Common.{◌≡◌, ℕ, ◌≤◌, min, List, length, map, take, sym, ap, ◌∙◌, arith, inl, inr, refl}
 use Rattle.std.proofs.lemmas.Bool.{cases_lt}
 use Rattle.std.proofs.lemmas.List.{length-take, take_all, take-take}
 use Rattle.std.specs.Prelude.{None, Some}
@@ -9,7 +9,8 @@ use Rattle.jx_run.specs.Settings as by
 use Rattle.jx_run.specs.Tree.{Tree}
 use Rattle.jx_run.specs.declared.texts.settings.Settings.{Settings}
 use Rattle.jx_run.specs.declared.texts.verdict.Refusal.{Refusal}
-use Rattle.jx_run.specs.declared.texts.verdict.Verdict.TheVariants.{Refused}
+use Rattle.jx_run.specs.declared.texts.verdict.Verdict.TheVariants.{Accepted, Refused}
+use Rattle.jx_complete.specs.Completed.{IsCompleted}
 use Rattle.jx_serve.specs.Values.{any_names}
 
 take_both : {A : Type 0} (xs : List A) (m n : ℕ) → take (min m n) xs ≡ take m (take n xs)
@@ -33,3 +34,7 @@ not_judged s text tree _ d (by.stopped none longest less deeper) = none tree d
 pub not_refused : (s : Settings) (text : List ℕ) (tree : Tree) (refusal : Refusal) → IsDocumentBy (any_names s) 0 text tree → IsVerdictBy (any_names s) text (Refused refusal) → ⊥
 not_refused s text tree _ d (repeated_name {at = at} other is) = let x : Some at ≡ None = is in cc
 not_refused s text tree refusal d (no_text judged) = not_judged (any_names s) text tree refusal d judged
+
+-- bytes that are a text are completed as they are
+pub whole_text : (s : Settings) (bytes : List ℕ) → JudgedBy s 0 bytes Accepted → IsCompleted s bytes bytes (length bytes)
+whole_text s bytes (by.a_text {tree = t} d) = record { verdict = Accepted; judged = by.a_text d; kept_is = refl; tree = t; is_text = d; begins = refl; whole = λ e. refl }

@@ -2,13 +2,17 @@
 use Rattle.std.proofs.Common.{◌≡◌, ℕ, suc, ◌-◌, Bool, true, false, List, [], ◌∷◌, ◌++◌, append_assoc, append-nil, decimal, codes, refl, sym, ap, subst, ◌∙◌, inl, inr, ◌⊎◌, ◌^◌, ◌<◌, ◌≤◌, arith}
 use Rattle.std.specs.Prelude.{OnOk, Result, Ok, Err}
 use Rattle.jx_lex.specs.Token.{IsString, IsNumber}
+use Rattle.jx_lex.specs.declared.kind.Kind.{Kind}
+use Rattle.jx_lex.specs.declared.kind.Kind.TheVariants as kind
 use Rattle.jx_run.specs.Settings.{IsDocumentBy}
 use Rattle.jx_run.specs.Text.{document}
 use Rattle.jx_run.specs.Grammar.{no_blanks}
 use Rattle.jx_run.specs.declared.texts.verdict.Verdict.TheVariants.{Accepted}
 use Rattle.jx_index.specs.ByNames.{IsVerdictBy, a_text}
+use Rattle.jx_edit.specs.declared.positions.position.Position.{Position}
 use Rattle.jx_serve.specs.Messages.{message_settings}
-use Rattle.jx_serve.specs.inside.Sound.{AreItems, AreMembers, IsValue, IsWhole, IsHead, IsList, IsBegun, IsAString, IsPlain, IsPlainValue, AreDistinct, AddsHead, AddsNamed, AddsString, AreOpen, closings, is_natural, list_head}
+use Rattle.jx_serve.specs.Words.{ends}
+use Rattle.jx_serve.specs.inside.Sound.{AreItems, AreMembers, IsValue, IsWhole, IsHead, IsList, IsBegun, IsAString, IsPlain, IsPlainValue, AreDistinct, AddsHead, AddsNamed, AddsString, AreOpen, closings, kind_member, list_head, symbol_kind}
 use Rattle.jx_serve.proofs.Sounds.{a_string, a_number, members_end, members_on, an_object, an_array, decimal_plain, distinct_by, natural_number, no_items, plain_string}
 use Rattle.jx_serve.proofs.Opens.{all_closed}
 use Rattle.jx_serve.proofs.Uniques.{never_repeated}
@@ -32,6 +36,21 @@ ends_value limit start end s e rest =
     (an_object limit (codes "start" ∷ codes "end" ∷ []) _ rest (distinct_by (codes "start" ∷ codes "end" ∷ []) refl)
     (members_on limit (codes "end" ∷ []) (codes "\"start\"") (codes "start") (start ++ (codes ",\"end\":" ++ (end ++ (codes "}" ++ rest)))) _ _ (plain_string (codes "start") refl) (s _)
     (members_end limit (codes "\"end\"") (codes "end") (end ++ (codes "}" ++ rest)) _ (plain_string (codes "end") refl) (e _))))
+
+parted : (o s l sl c sc t e el ec : List ℕ)
+    → ((((((((o ++ (s ++ l)) ++ sl) ++ c) ++ sc) ++ (t ++ (e ++ l))) ++ el) ++ c) ++ ec) ++ (t ++ t) ≡ o ++ ((((s ++ ((((l ++ sl) ++ c) ++ sc) ++ t)) ++ e) ++ ((((l ++ el) ++ c) ++ ec) ++ t)) ++ t)
+parted o s l sl c sc t e el ec = simp append_assoc refl
+
+pub ends_words : (o a b c d e f g h i : List ℕ) (start end : Position) → a ≡ o ++ codes "{\"start\":{\"line\":" → b ≡ a ++ decimal start.line → c ≡ b ++ codes ",\"character\":" → d ≡ c ++ decimal start.character
+    → e ≡ d ++ codes "},\"end\":{\"line\":" → f ≡ e ++ decimal end.line → g ≡ f ++ codes ",\"character\":" → h ≡ g ++ decimal end.character → i ≡ h ++ codes "}}" → i ≡ o ++ ends start end
+ends_words o a b c d e f g h i start end p q r s t u v w x =
+    x ∙ ap (λ l. l ++ codes "}}")
+    (w ∙ ap (λ l. l ++ decimal end.character)
+    (v ∙ ap (λ l. l ++ codes ",\"character\":")
+    (u ∙ ap (λ l. l ++ decimal end.line)
+    (t ∙ ap (λ l. l ++ codes "},\"end\":{\"line\":")
+    (s ∙ ap (λ l. l ++ decimal start.character) (r ∙ ap (λ l. l ++ codes ",\"character\":") (q ∙ ap (λ l. l ++ decimal start.line) p)))))))
+    ∙ parted o (codes "{\"start\":") (codes "{\"line\":") (decimal start.line) (codes ",\"character\":") (decimal start.character) (codes "}") (codes ",\"end\":") (decimal end.line) (decimal end.character)
 
 -- ---- an answer
 
@@ -126,21 +145,27 @@ added_place before one two after place fits e f g = record {
   whole = g ∙ ap (λ b. b ++ codes "\"") (f ∙ ap (λ b. b ++ decimal place) e) ∙ simp append_assoc refl;
 }
 
-grouped : (o a b c d e : List ℕ) → ((((o ++ a) ++ b) ++ c) ++ d) ++ e ≡ o ++ ((((a ++ b) ++ c) ++ d) ++ e)
-grouped o a b c d e =
-    ap (λ x. ((x ++ c) ++ d) ++ e) (append_assoc o a b) ∙ ap (λ x. (x ++ d) ++ e) (append_assoc o (a ++ b) c) ∙ ap (λ x. x ++ e) (append_assoc o ((a ++ b) ++ c) d) ∙ append_assoc o (((a ++ b) ++ c) ++ d) e
+kind_number : (k : Kind) → IsNumber (symbol_kind k)
+kind_number kind.String = natural_number (codes "15") refl
+kind_number kind.Number = natural_number (codes "16") refl
+kind_number kind.True = natural_number (codes "17") refl
+kind_number kind.False = natural_number (codes "17") refl
+kind_number kind.Array = natural_number (codes "18") refl
+kind_number kind.Object = natural_number (codes "19") refl
+kind_number kind.Null = natural_number (codes "21") refl
 
-pub added_named : (before one two three four after kind : List ℕ) → one ≡ before ++ codes "{\"name\":" → AddsString one two → three ≡ two ++ codes ",\"kind\":" → four ≡ three ++ kind → is_natural kind ≡ true
-    → after ≡ four ++ codes "," → AddsNamed before after
-added_named before one two three four after kind e s f g k h = record {
+grouped : (o a b c d e : List ℕ) → ((o ++ a) ++ b) ++ ((c ++ d) ++ e) ≡ o ++ ((((a ++ b) ++ c) ++ d) ++ e)
+grouped o a b c d e = simp append_assoc refl
+
+pub added_named : (before one two after : List ℕ) (k : Kind) → one ≡ before ++ codes "{\"name\":" → AddsString one two → after ≡ two ++ kind_member k → AddsNamed before after
+added_named before one two after k e s f = record {
   name = s.name;
   units = s.units;
-  kind = kind;
+  kind = symbol_kind k;
   is_string = s.is_string;
-  is_kind = natural_number kind k;
+  is_kind = kind_number k;
   whole =
-      h ∙ ap (λ b. b ++ codes ",") (g ∙ ap (λ b. b ++ kind) (f ∙ ap (λ b. b ++ codes ",\"kind\":") (s.whole ∙ ap (λ b. b ++ s.name) e)))
-      ∙ grouped before (codes "{\"name\":") s.name (codes ",\"kind\":") kind (codes ",");
+      f ∙ ap (λ b. b ++ kind_member k) (s.whole ∙ ap (λ b. b ++ s.name) e) ∙ grouped before (codes "{\"name\":") s.name (codes ",\"kind\":") (symbol_kind k) (codes ",");
 }
 
 -- a symbol's beginning, of which the ranges are values

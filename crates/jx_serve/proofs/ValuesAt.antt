@@ -1,5 +1,5 @@
 -- The value at an offset, by the index of a text, and what is shown of it.
-use Rattle.std.proofs.Common.{◌≡◌, ◌≤◌, ℕ, Bool, List, true, false, inl, inr, refl, subst, ◌∙◌}
+use Rattle.std.proofs.Common.{◌≡◌, ◌≤◌, ℕ, Bool, List, true, false, inl, inr, refl, subst, sym, ◌∙◌}
 use Rattle.std.specs.Prelude.{◌⊎◌, Option, None, Some, Result, Ok, IfSome, Vec, slice_get}
 use Rattle.std.specs.Global.{Global}
 use Rattle.jx_edit.specs.Positions.{offset_at}
@@ -19,7 +19,7 @@ use Rattle.jx_run.specs.declared.texts.verdict.Refusal.{Refusal}
 use Rattle.jx_wire.specs.declared.call.Place.{Place}
 use Rattle.jx_serve.specs.Changes.{HeldValue, position}
 use Rattle.jx_complete.specs.Completed.{IsCompleted}
-use Rattle.jx_serve.specs.Values.{any_names, in_no_value, is_due, HasNoHover, HasNoValueAt, no_text, in_none, IsFoundAt, IsHovered, IsInNone, IsInnermost, IsValueAt}
+use Rattle.jx_serve.specs.Values.{any_names, in_no_value, is_due, HasNoHover, HasNoValueAt, no_text, in_none, IsFoundAt, IsHoverAt, IsHovered, IsInNone, IsInnermost, IsValueAt}
 use Rattle.jx_serve.proofs.Outlines.{not_refused}
 use Rattle.jx_serve.specs.declared.hover.Hover.{Hover}
 use Rattle.jx_serve.specs.declared.under_cursor.ValueAt.{ValueAt}
@@ -98,3 +98,15 @@ none_shown e place h k hover v n f =
     subst (λ (x : HeldValue). (x.lost ≡ true) ⊎ HasNoHover x.settings x.bytes (offset_at e x.bytes (position place))) v
     (either h.lost (λ (l : h.lost ≡ false). let x : IsHovered e h.settings h.bytes (offset_at e h.bytes (position place)) None =
     subst (IsHovered e h.settings h.bytes (offset_at e h.bytes (position place))) n (f l) in x))
+
+known_by : (lost : Bool) (found : Option Hover) (hover : Hover) → (lost ≡ true → found ≡ None) → found ≡ Some hover → lost ≡ false
+known_by true found hover none some = let x : Some hover ≡ None = sym some ∙ none refl in cc
+known_by false found hover none some = refl
+
+pub some_shown : (e : Encoding) (place : Place) (h k : HeldValue) (found : Option Hover) (hover : Hover) → h ≡ k → found ≡ Some hover → (h.lost ≡ true → found ≡ None)
+    → (h.lost ≡ false → IsHovered e h.settings h.bytes (offset_at e h.bytes (position place)) found)
+    → (k.lost ≡ false) × IsHoverAt e k.settings k.bytes (offset_at e k.bytes (position place)) hover
+some_shown e place h k found hover v some none f =
+    let known : h.lost ≡ false = known_by h.lost found hover none some in
+    let at : IsHovered e h.settings h.bytes (offset_at e h.bytes (position place)) (Some hover) = subst (IsHovered e h.settings h.bytes (offset_at e h.bytes (position place))) some (f known) in
+    subst (λ (x : HeldValue). (x.lost ≡ false) × IsHoverAt e x.settings x.bytes (offset_at e x.bytes (position place)) hover) v (known, at)

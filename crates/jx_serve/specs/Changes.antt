@@ -1,4 +1,4 @@
--- What changes make of the bytes that a client has in a document.
+-- The bytes that a client has in a document after changes.
 use Rattle.std.specs.Prelude.{ℕ, nat_le, if◌then◌else◌, List, Bool, true, false}
 use Rattle.jx_edit.specs.Document.{edited}
 use Rattle.jx_edit.specs.Positions.{offset_at}

@@ -1,4 +1,4 @@
--- What the messages of the server are.
+-- The messages of the server.
 use Rattle.jx_run.specs.declared.texts.settings.FrontMark.TheVariants as mark
 use Rattle.jx_run.specs.declared.texts.settings.NameRule.TheVariants as names
 use Rattle.jx_run.specs.declared.texts.settings.Settings.{Settings}

@@ -1,4 +1,4 @@
--- What stands around places of a document.
+-- The values around places of a document.
 use Rattle.std.specs.Prelude.{◌≡◌, ℕ, ◌-◌, ◌&&◌, min, nat_le, nat_lt, List, [], ◌∷◌, ◌++◌, Bool, Option, None, Some, drop, if◌then◌else◌, length, map, Vec}
 use Rattle.std.specs.Global.{Global}
 use Rattle.std.specs.List.{flat_map, AllZip}

@@ -1,4 +1,4 @@
--- What a server knows of its client, and what it may send to it.
+-- The facts that a server knows of its client, and the replies that it may send to it.
 use Rattle.std.specs.Prelude.{◌≡◌, ◌⊎◌, ℕ, List, Bool, Option, None, Some, false, true, fold, map, position, slice_get, slice_set, MatchOption, Vec}
 use Rattle.std.specs.Global.{Global}
 use Rattle.std.specs.Str.{bytes_eq}
@@ -88,13 +88,13 @@ pub record AreLinesOn (e : Encoding) (document : OpenValue) (uri : List ℕ) (ma
   pub has_lines : document.content ≡ Lines
   pub are_marks : AreLineMarks e document.held.settings document.held.bytes marks
 
--- what is published is the verdict on this document, or on its lines
+-- the published verdict is that on this document, or on its lines
 abbrev pub TellsOf : Encoding → OpenValue → Reply → Type 0
 TellsOf e document (Published uri version mark) = IsVerdictOn document uri.items (told mark)
 TellsOf e document (PublishedLines uri version marks) = AreLinesOn e document uri.items marks
 TellsOf e document _ = Unit {0}
 
--- what is published is the verdict on a document that is open, or on its lines
+-- the published verdict is that on a document that is open, or on its lines
 pub record Tells (server : ServerValue) (reply : Reply) : Type 0 where
   pub number : ℕ
   pub document : OpenValue
@@ -110,7 +110,7 @@ IsQuiet _ = Unit {0}
 abbrev pub TellsVerdict : ServerValue → Reply → Type 0
 TellsVerdict server reply = IsQuiet reply ⊎ Tells server reply
 
--- what is published has this version
+-- the published verdict has this version
 abbrev pub HasVersion : Option (Vec ℕ Global) → Reply → Type 0
 HasVersion version (Published uri told mark) = told ≡ version
 HasVersion version (PublishedLines uri told marks) = told ≡ version
@@ -173,8 +173,8 @@ AreFoldsIn e (Null id) document = (document.content ≡ Lines) ⊎ ((document.he
 AreFoldsIn e (Refused id code refusal) document = code ≡ RequestFailed
 AreFoldsIn e _ document = ⊥
 
--- what stands around places of a document, or null where it is JSON Lines, or its bytes are lost or have no value before the fault, or that
--- it was out of memory
+-- the values around places of a document, or null where it is JSON Lines, or its bytes are lost or have no value before the fault; or the
+-- answer that it was out of memory
 abbrev pub AreAroundIn : Encoding → List Place → Reply → OpenValue → Type 0
 AreAroundIn e places (Selected id selections) document =
     (document.content ≡ Text) × (document.held.lost ≡ false) × AreSelections e document.held.settings document.held.bytes places selections.items
@@ -182,7 +182,7 @@ AreAroundIn e places (Null id) document = (document.content ≡ Lines) ⊎ ((doc
 AreAroundIn e places (Refused id code refusal) document = code ≡ RequestFailed
 AreAroundIn e places _ document = ⊥
 
--- what is answered of the first document of a name; null where there is none
+-- the answer on the first document of a name; null where there is none
 abbrev pub IsHover : ServerValue → List ℕ → Place → Reply → Type 0
 IsHover server name place reply =
     MatchOption (number_named name server.documents) (IsNull reply) (λ number. IsOf server.documents number (IsHoverIn server.encoding place reply))

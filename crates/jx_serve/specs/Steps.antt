@@ -1,4 +1,4 @@
--- What a message makes of a server, and how it is answered (Language Server Protocol 3.17, "Lifecycle Messages" and "Text Document
+-- The server that a message makes of another, and the answer to it (Language Server Protocol 3.17, "Lifecycle Messages" and "Text Document
 -- Synchronization").
 use Rattle.std.specs.Prelude.{◌≡◌, ◌⊎◌, ℕ, ◌+◌, List, [], ◌∷◌, ◌++◌, Bool, true, false, Option, None, Some, IfSome, MatchOption, Vec, drop, is_none, nat_le, take, if◌then◌else◌}
 use Rattle.std.specs.Global.{Global}
@@ -72,8 +72,8 @@ without name documents = without_at (number_named name documents) documents
 abbrev pub sent : ServerValue → Uri → Content → Change → OpenValue
 sent server uri content text = record { name = uri.name.items; spelt = uri.spelt.items; content = content; held = changed server.encoding (held server.settings []) text }
 
--- what is published of a document, with the version of the message: its verdict and the diagnostic of its refusal, or one for each
--- of its lines that is not valid JSON; or that its bytes are lost, or that it was out of memory
+-- the reply that is published of a document, with the version of the message: its verdict and the diagnostic of its refusal, or one for each of its
+-- lines that is not valid JSON; or that its bytes are lost, or that it was out of memory
 abbrev pub IsToldOf : Encoding → Option (Vec ℕ Global) → OpenValue → Reply → Type 0
 IsToldOf e version document (Published uri told_version shown) =
     IsVerdictOn document uri.items (told shown) × (told_version ≡ version) × IfSome shown (IsPlaced e document.held.bytes)
@@ -186,7 +186,7 @@ reply_to (fault.WrongParameters (Some id)) = Refused (Some id) InvalidParams Non
 reply_to (fault.WrongParameters None) = Logged WrongParameters
 reply_to fault.Memory = Logged Memory
 
--- what the body of a frame makes of a server, and what is replied
+-- the server that the body of a frame makes of another, and the reply
 pub data Turns (body : List ℕ) (before after : ServerValue) (reply : Reply) : Type 0 where
   by_request : (request : Request) → IsVerdictBy wire_settings body Accepted → Says body (λ at. IsRequest at request) → Steps request before after reply
       → Turns body before after reply

@@ -48,7 +48,7 @@ word_of_refusal Truncated = codes "truncated"
 word_of_refusal (TooDeep at) = codes "too deep"
 word_of_refusal (RepeatedName at) = codes "repeated name"
 
--- what `jx check` prints
+-- the words that `jx check` prints
 abbrev pub words_of_refusal : Refusal → List ℕ
 words_of_refusal (Stopped at) = codes "stopped" ++ codes " at " ++ decimal at
 words_of_refusal Truncated = codes "truncated"
@@ -118,7 +118,7 @@ abbrev pub diagnostics : Option Mark → List ℕ
 diagnostics None = []
 diagnostics (Some mark) = diagnostic mark
 
--- what `jx lines` prints of a line
+-- the words that `jx lines` prints of a line
 abbrev pub word_of_line : LineVerdict → List ℕ
 word_of_line on_line.Accepted = codes "accepted"
 word_of_line (on_line.Refused refusal) = word_of_refusal refusal

@@ -2,6 +2,7 @@
 ghost use Rattle.std.specs.Prelude.{◌≡◌, ◌≤◌, ◌<◌, length, not, false, true, None, IfOk, IfSome, OnErr, OnOk, fold, is_some};
 ghost use Rattle.jx_edit.specs.declared.positions.encoding.Encoding.{Encoding};
 ghost use Rattle.jx_index.specs.ByNames.{IsVerdictBy};
+ghost use Rattle.jx_run.specs.Settings.{JudgedBy};
 ghost use Rattle.jx_serve.specs.Changes.{changed, held, lose, position, replaced};
 ghost use Rattle.jx_serve.specs.LineMarks.{AreLineMarks};
 ghost use Rattle.jx_serve.specs.Marks.{told, IsPlaced};
@@ -61,6 +62,26 @@ fn shown_from(row: &Row, offset: usize) -> usize
     }
 }
 
+/// The text that is read in place of bytes that have a verdict. Where they are a text they are not read for that.
+fn completed_by(
+    alloc: Global,
+    bytes: Vec<u8>,
+    settings: &Settings,
+    verdict: Verdict,
+) -> Result<Option<Completed>, AllocError>
+    requires { JudgedBy settings.now 0 bytes.items verdict }
+    ensures some { IfOk result (λ c. IfSome c (λ c. IsCompleted settings.now bytes.items c.text.items c.kept)) }
+    ensures none { IfOk result (λ c. c ≡ None → IsCutInMark settings.now bytes.items) }
+{
+    match verdict {
+        Verdict::Accepted => {
+            let kept = bytes.len();
+            Ok(Some(Completed { text: bytes, kept }))
+        }
+        Verdict::Refused(_) => complete(alloc, bytes, settings),
+    }
+}
+
 /// A document of these bytes, whatever names its objects have, that finds positions by this encoding fast.
 fn document_of(
     alloc: Global,
@@ -109,7 +130,7 @@ impl Held {
         self.lost
     }
 
-    /// How a verdict on it is shown.
+    /// The diagnostic that shows a verdict on it.
     pub fn mark(&self, encoding: Encoding, verdict: Verdict) -> Result<Option<Mark>, AllocError>
         ensures told { IfOk result (λ mark. told mark ≡ verdict) }
         ensures placed { IfOk result (λ mark. IfSome mark (IsPlaced encoding self.now.bytes)) }
@@ -146,7 +167,7 @@ impl Held {
                     return Ok(());
                 }
                 let from = self.document.offset_of(position_of(*start), encoding);
-                // What is put in has one place: its offset is not looked for twice.
+                // The text that is put in has one place: its offset is not looked for twice.
                 if start == end {
                     return self.replace(from, from, text);
                 }
@@ -212,21 +233,35 @@ impl Held {
 
     /// The innermost value at a place before the fault, with its positions (RFC 8259), whatever names objects have; none where the
     /// bytes are lost, or where no value stands there before the fault. A copy of all bytes is read.
-    pub fn hover(&self, place: Place, encoding: Encoding) -> Result<Option<Hover>, AllocError>
-        ensures lost { self.now.lost ≡ true → IfOk result (λ hover. hover ≡ None) }
-        ensures value { self.now.lost ≡ false → IfOk result (IsHovered encoding self.now.settings self.now.bytes (offset_at encoding self.now.bytes (position place))) }
+    pub fn hover(&mut self, place: Place, encoding: Encoding) -> Result<Option<Hover>, AllocError>
+        ensures same { self.new ≡ self.old }
+        ensures lost { self.old.lost ≡ true → IfOk result (λ hover. hover ≡ None) }
+        ensures value { self.old.lost ≡ false → IfOk result (IsHovered encoding self.old.settings self.old.bytes (offset_at encoding self.old.bytes (position place))) }
     {
         if self.lost {
             return Ok(None);
         }
-        let offset = self.document.offset_of(position_of(place), encoding);
         let Some(completed) = self.completed()? else {
             return Ok(None);
         };
+        self.hover_at(&completed, place, encoding)
+    }
+
+    /// The innermost value of a completed text at a place before the fault.
+    fn hover_at(
+        &self,
+        completed: &Completed,
+        place: Place,
+        encoding: Encoding,
+    ) -> Result<Option<Hover>, AllocError>
+        requires { IsCompleted (any_names self.now.settings) self.now.bytes completed.now.text.items completed.now.kept }
+        ensures { IfOk result (IsHovered encoding self.now.settings self.now.bytes (offset_at encoding self.now.bytes (position place))) }
+    {
+        let offset = self.document.offset_of(position_of(place), encoding);
         if completed.kept <= offset {
             return Ok(None);
         }
-        self.hover_in(&completed, offset, encoding)
+        self.hover_in(completed, offset, encoding)
     }
 
     /// The innermost value of a completed text at an offset, unless it is due at the fault.
@@ -264,9 +299,10 @@ impl Held {
 
     /// The first 10,000 values that begin before the fault, with their positions (RFC 8259), whatever names objects have; none
     /// where the bytes are lost, or begin no more than a byte order mark before the fault. A copy of all bytes is read.
-    pub fn symbols(&self, encoding: Encoding) -> Result<Option<Outline>, AllocError>
-        ensures lost { self.now.lost ≡ true → IfOk result (λ outline. outline ≡ None) }
-        ensures values { self.now.lost ≡ false → IfOk result (IsOutlined encoding self.now.settings self.now.bytes) }
+    pub fn symbols(&mut self, encoding: Encoding) -> Result<Option<Outline>, AllocError>
+        ensures same { self.new ≡ self.old }
+        ensures lost { self.old.lost ≡ true → IfOk result (λ outline. outline ≡ None) }
+        ensures values { self.old.lost ≡ false → IfOk result (IsOutlined encoding self.old.settings self.old.bytes) }
     {
         if self.lost {
             return Ok(None);
@@ -286,7 +322,7 @@ impl Held {
         let settings = self.document.settings();
         let kept = completed.kept;
         match read_rows(self.alloc, &completed.text, &settings)? {
-            // What is completed is a text.
+            // The completed bytes are a text.
             Err(_) => unreachable!(),
             Ok(rows) => {
                 let text = completed.text;
@@ -299,12 +335,13 @@ impl Held {
     /// The ranges around each of some places before the fault, with their positions (RFC 8259), whatever names objects have; none
     /// where the bytes are lost, or begin no more than a byte order mark before the fault. A copy of all bytes is read.
     pub fn selections(
-        &self,
+        &mut self,
         places: &[Place],
         encoding: Encoding,
     ) -> Result<Option<Vec<Selection>>, AllocError>
-        ensures lost { self.now.lost ≡ true → IfOk result (λ selections. selections ≡ None) }
-        ensures values { self.now.lost ≡ false → IfOk result (AreSelected encoding self.now.settings self.now.bytes places.now) }
+        ensures same { self.new ≡ self.old }
+        ensures lost { self.old.lost ≡ true → IfOk result (λ selections. selections ≡ None) }
+        ensures values { self.old.lost ≡ false → IfOk result (AreSelected encoding self.old.settings self.old.bytes places.now) }
     {
         if self.lost {
             return Ok(None);
@@ -329,7 +366,7 @@ impl Held {
         let settings = self.document.settings();
         let kept = completed.kept;
         match read_rows(self.alloc, &completed.text, &settings)? {
-            // What is completed is a text.
+            // The completed bytes are a text.
             Err(_) => unreachable!(),
             Ok(rows) => {
                 let alloc = self.alloc;
@@ -347,13 +384,15 @@ impl Held {
     }
 
     /// The text that is read in place of the bytes: the bytes where they are a text, or those before the fault, completed.
-    fn completed(&self) -> Result<Option<Completed>, AllocError>
-        ensures some { IfOk result (λ c. IfSome c (λ c. IsCompleted (any_names self.now.settings) self.now.bytes c.text.items c.kept)) }
-        ensures none { IfOk result (λ c. c ≡ None → IsCutInMark (any_names self.now.settings) self.now.bytes) }
+    fn completed(&mut self) -> Result<Option<Completed>, AllocError>
+        ensures same { self.new ≡ self.old }
+        ensures some { IfOk result (λ c. IfSome c (λ c. IsCompleted (any_names self.old.settings) self.old.bytes c.text.items c.kept)) }
+        ensures none { IfOk result (λ c. c ≡ None → IsCutInMark (any_names self.old.settings) self.old.bytes) }
     {
+        let verdict = self.document.verdict()?;
         let bytes = self.copy()?;
         let settings = self.document.settings();
-        complete(self.alloc, bytes, &settings)
+        completed_by(self.alloc, bytes, &settings, verdict)
     }
 
     /// All bytes.

@@ -1,4 +1,4 @@
-// What is shown of the value under a cursor.
+// The words that are shown of the value under a cursor.
 use crate::under_cursor::ValueAt;
 use jx_edit::Position;
 

@@ -1,4 +1,4 @@
-// What is wrong with a line of a document, in a sentence.
+// The sentence that says what is wrong with a line of a document.
 use crate::sentence::{bytes_between, inside_quotes, place_at};
 use jx_edit::{Document, Encoding};
 use jx_lex::Span;

@@ -18,7 +18,7 @@ fn are_plain(bytes: &[u8]) -> bool
     bytes.iter().all(|byte| is_plain(*byte))
 }
 
-/// What stands between quotation marks at both ends of some bytes; none where they are not there.
+/// The bytes between quotation marks at both ends of some bytes; none where they are not there.
 fn between_quotes(bytes: &[u8]) -> Option<&[u8]>
     ensures { IfSome result (λ inside. bytes.now ≡ 0x22 ∷ (inside.now ++ (0x22 ∷ []))) }
 {
@@ -29,7 +29,7 @@ fn between_quotes(bytes: &[u8]) -> Option<&[u8]>
     Some(&bytes[1..last])
 }
 
-/// What a string has between its quotation marks, where it has no other characters; none where the bytes are no such string.
+/// The bytes of a string between its quotation marks, where it has no other characters; none where the bytes are no such string.
 pub(crate) fn plain_inside(bytes: &[u8]) -> Option<&[u8]>
     ensures { IfSome result (λ inside. IsPlain bytes.now) }
 {

@@ -1,4 +1,4 @@
-// What the server sends to the client.
+// The replies that the server sends to the client.
 use crate::hover::Hover;
 use crate::line_mark::LineMarks;
 use crate::mark::Mark;

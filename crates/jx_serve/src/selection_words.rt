@@ -1,4 +1,4 @@
-// What stands around places of a document, in messages.
+// The values around places of a document, in messages.
 ghost use Rattle.std.specs.Prelude.{◌≡◌, ◌++◌, ℕ, List, [], suc, true, IfOk, OnOk, codes, length};
 ghost use Rattle.jx_serve.specs.Words.{ends, range};
 ghost use Rattle.jx_serve.specs.inside.Sound.{braces, AddsValue, AreRanges, IsWhole};

@@ -1,4 +1,4 @@
-// What is wrong with a document, in a sentence.
+// The sentence that says what is wrong with a document.
 use crate::standing::standing_in;
 use jx_edit::{Document, Encoding};
 use jx_run::{Refusal, Settings};
@@ -55,7 +55,7 @@ pub(crate) fn place_at(document: &Document, encoding: Encoding, at: usize) -> Pl
 fn string_place(document: &Document, encoding: Encoding) -> Result<Option<Place>, AllocError> {
     let near = document.len().saturating_sub(NEAR);
     let bytes = bytes_between(document, near, document.len())?;
-    // What stands in front of the bytes may be a backslash, but not in front of a text.
+    // The byte in front of the bytes may be a backslash, but not in front of a text.
     let front = if near == 0 { b' ' } else { b'\\' };
     let Some(start) = string_start(front, &bytes) else {
         return Ok(None);

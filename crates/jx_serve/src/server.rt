@@ -141,10 +141,11 @@ impl Open {
     }
 
     /// The value at a place of the document, as the answer to a request.
-    fn hovered(&self, id: Vec<u8>, place: Place, encoding: Encoding) -> Reply
+    fn hovered(&mut self, id: Vec<u8>, place: Place, encoding: Encoding) -> Reply
+        ensures same { self.new ≡ self.old }
         ensures answers { IsAnswer (Some id) result }
         ensures quiet { IsQuiet result }
-        ensures shows { IsHoverIn encoding place result self.now }
+        ensures shows { IsHoverIn encoding place result self.old }
     {
         match self.content {
             Content::Lines => Reply::Null { id },
@@ -157,10 +158,11 @@ impl Open {
     }
 
     /// The values of the document, as the answer to a request.
-    fn outlined(&self, alloc: Global, id: Vec<u8>, nested: bool, encoding: Encoding) -> Reply
+    fn outlined(&mut self, alloc: Global, id: Vec<u8>, nested: bool, encoding: Encoding) -> Reply
+        ensures same { self.new ≡ self.old }
         ensures answers { IsAnswer (Some id) result }
         ensures quiet { IsQuiet result }
-        ensures shows { IsOutlineIn encoding nested result self.now }
+        ensures shows { IsOutlineIn encoding nested result self.old }
     {
         let Ok(uri) = Vec::from_slice(alloc, &self.uri.spelt) else {
             return refused(id, Code::RequestFailed);
@@ -183,10 +185,11 @@ impl Open {
 
 impl Open {
     /// The values of the document to fold, as the answer to a request.
-    fn folded(&self, id: Vec<u8>, encoding: Encoding) -> Reply
+    fn folded(&mut self, id: Vec<u8>, encoding: Encoding) -> Reply
+        ensures same { self.new ≡ self.old }
         ensures answers { IsAnswer (Some id) result }
         ensures quiet { IsQuiet result }
-        ensures shows { AreFoldsIn encoding result self.now }
+        ensures shows { AreFoldsIn encoding result self.old }
     {
         match self.content {
             Content::Lines => Reply::Null { id },
@@ -199,10 +202,11 @@ impl Open {
     }
 
     /// The ranges around places of the document, as the answer to a request.
-    fn selected(&self, id: Vec<u8>, places: &[Place], encoding: Encoding) -> Reply
+    fn selected(&mut self, id: Vec<u8>, places: &[Place], encoding: Encoding) -> Reply
+        ensures same { self.new ≡ self.old }
         ensures answers { IsAnswer (Some id) result }
         ensures quiet { IsQuiet result }
-        ensures shows { AreAroundIn encoding places.now result self.now }
+        ensures shows { AreAroundIn encoding places.now result self.old }
     {
         match self.content {
             Content::Lines => Reply::Null { id },
@@ -285,7 +289,7 @@ impl Server {
         }
     }
 
-    /// How far it has come.
+    /// The phase in which it is.
     pub fn phase(&self) -> Phase
         ensures { result ≡ self.now.phase }
     {
@@ -338,55 +342,69 @@ impl Server {
 
     /// Answers with the innermost value at a place of a document, with its pointer. Null where the document is not open or is
     /// JSON Lines, its bytes are lost, or no value stands there before the fault.
-    pub fn hover(&self, id: Vec<u8>, uri: &Uri, place: Place) -> Reply
+    pub fn hover(&mut self, id: Vec<u8>, uri: &Uri, place: Place) -> Reply
+        ensures same { self.new ≡ self.old }
         ensures answers { IsAnswer (Some id) result }
         ensures quiet { IsQuiet result }
-        ensures shows { IsHover self.now uri.now.name.items place result }
+        ensures shows { IsHover self.old uri.now.name.items place result }
     {
         match self.number_of(&uri.name) {
             None => Reply::Null { id },
-            Some(number) => self.documents[number].hovered(id, place, self.encoding),
+            Some(number) => {
+                let encoding = self.encoding;
+                self.documents[number].hovered(id, place, encoding)
+            }
         }
     }
 
     /// Answers with the first 10,000 values of a document that begin before the fault. Null where it is not open or is JSON
     /// Lines, or its bytes are lost.
-    pub fn symbols(&self, id: Vec<u8>, uri: &Uri) -> Reply
+    pub fn symbols(&mut self, id: Vec<u8>, uri: &Uri) -> Reply
+        ensures same { self.new ≡ self.old }
         ensures answers { IsAnswer (Some id) result }
         ensures quiet { IsQuiet result }
-        ensures lists { AreSymbols self.now uri.now.name.items result }
+        ensures lists { AreSymbols self.old uri.now.name.items result }
     {
         match self.number_of(&uri.name) {
             None => Reply::Null { id },
             Some(number) => {
-                self.documents[number].outlined(self.alloc, id, self.nested, self.encoding)
+                let encoding = self.encoding;
+                self.documents[number].outlined(self.alloc, id, self.nested, encoding)
             }
         }
     }
 
     /// Answers with the first 10,000 values of a document that begin before the fault: those over several lines can be folded.
     /// Null where it is not open or is JSON Lines, or its bytes are lost.
-    pub fn folds(&self, id: Vec<u8>, uri: &Uri) -> Reply
+    pub fn folds(&mut self, id: Vec<u8>, uri: &Uri) -> Reply
+        ensures same { self.new ≡ self.old }
         ensures answers { IsAnswer (Some id) result }
         ensures quiet { IsQuiet result }
-        ensures lists { AreFolds self.now uri.now.name.items result }
+        ensures lists { AreFolds self.old uri.now.name.items result }
     {
         match self.number_of(&uri.name) {
             None => Reply::Null { id },
-            Some(number) => self.documents[number].folded(id, self.encoding),
+            Some(number) => {
+                let encoding = self.encoding;
+                self.documents[number].folded(id, encoding)
+            }
         }
     }
 
     /// Answers with what stands around each of some places of a document before the fault. Null where it is not open or is JSON
     /// Lines, or its bytes are lost.
-    pub fn selections(&self, id: Vec<u8>, uri: &Uri, places: &[Place]) -> Reply
+    pub fn selections(&mut self, id: Vec<u8>, uri: &Uri, places: &[Place]) -> Reply
+        ensures same { self.new ≡ self.old }
         ensures answers { IsAnswer (Some id) result }
         ensures quiet { IsQuiet result }
-        ensures tells { AreAround self.now uri.now.name.items places.now result }
+        ensures tells { AreAround self.old uri.now.name.items places.now result }
     {
         match self.number_of(&uri.name) {
             None => Reply::Null { id },
-            Some(number) => self.documents[number].selected(id, places, self.encoding),
+            Some(number) => {
+                let encoding = self.encoding;
+                self.documents[number].selected(id, places, encoding)
+            }
         }
     }
 

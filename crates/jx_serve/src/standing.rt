@@ -6,8 +6,8 @@ use jx_edit::{Document, Stand};
 use jx_sentence::{Standing, innermost};
 use std::alloc::AllocError;
 
-/// Where a reading of a document's text is at an offset; none where the bytes before it do not begin a text. It is known after
-/// a verdict of the document. What it says of the last token is ignored.
+/// The standing of a reading of a document's text at an offset; none where the bytes before it do not begin a text. It is known after a verdict of
+/// the document. What it says of the last token is ignored.
 pub fn standing_in(document: &Document, at: usize) -> Result<Option<Standing>, AllocError>
     ensures { IfOk result (λ found. IfSome found (StandsIn document.now.settings document.now.bytes at)) }
 {

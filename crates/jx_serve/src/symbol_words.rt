@@ -1,6 +1,6 @@
 // Values of a document as symbols, in messages.
 ghost use Rattle.std.specs.Prelude.{◌≡◌, [], true, IfOk, OnOk};
-ghost use Rattle.jx_serve.specs.inside.Sound.{is_natural, AddsNamed, AddsString, AddsValue, IsAString, IsPlainValue, IsWhole};
+ghost use Rattle.jx_serve.specs.inside.Sound.{kind_member, AddsNamed, AddsString, AddsValue, IsAString, IsPlainValue, IsWhole};
 
 use crate::plain::{both, is_plain_value, is_unescaped_string, plain_inside};
 use crate::symbols::{Outline, Symbol};
@@ -11,17 +11,17 @@ use jx_wire::{StringFault, quoted, unescaped};
 use std::alloc::{AllocError, Global};
 use std::str;
 
-/// The number of a kind (Language Server Protocol 3.17, "SymbolKind").
-fn symbol_kind(kind: Kind) -> &'static [u8]
-    ensures { is_natural result.now ≡ true }
+/// The member for a kind, with the commas around it (Language Server Protocol 3.17, "SymbolKind").
+fn kind_member(kind: Kind) -> &'static [u8]
+    ensures { result.now ≡ kind_member kind }
 {
     match kind {
-        Kind::String => b"15",
-        Kind::Number => b"16",
-        Kind::True | Kind::False => b"17",
-        Kind::Array => b"18",
-        Kind::Object => b"19",
-        Kind::Null => b"21",
+        Kind::String => b",\"kind\":15,",
+        Kind::Number => b",\"kind\":16,",
+        Kind::True | Kind::False => b",\"kind\":17,",
+        Kind::Array => b",\"kind\":18,",
+        Kind::Object => b",\"kind\":19,",
+        Kind::Null => b",\"kind\":21,",
     }
 }
 
@@ -117,9 +117,7 @@ pub(crate) fn add_named(
 {
     out.extend_from_slice(b"{\"name\":")?;
     let known = add_name(alloc, out, text, row)?;
-    out.extend_from_slice(b",\"kind\":")?;
-    out.extend_from_slice(symbol_kind(row.kind))?;
-    out.extend_from_slice(b",")?;
+    out.extend_from_slice(kind_member(row.kind))?;
     Ok(known)
 }
 

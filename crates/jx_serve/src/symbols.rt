@@ -1,11 +1,13 @@
 // The values of a document, for an outline.
-ghost use Rattle.std.specs.Prelude.{◌≡◌, ◌≤◌, ◌<◌, ℕ, List, nat_le, IfOk, IfSome, length, map, position, take};
+ghost use Rattle.std.specs.Prelude.{◌≡◌, ◌≤◌, ◌<◌, ℕ, List, nat_le, IfOk, IfSome, length, map, min, position, take};
 ghost use Rattle.jx_edit.specs.Positions.{position_at};
 ghost use Rattle.jx_edit.specs.declared.positions.encoding.Encoding.{Encoding};
 ghost use Rattle.jx_index.specs.declared.row.Row.{Row};
-ghost use Rattle.jx_serve.specs.Values.{label_of, most_symbols, rows_before, symbol_of};
+ghost use Rattle.jx_serve.specs.Selections.{extent_of};
+ghost use Rattle.jx_serve.specs.Values.{label_of, most_symbols, outer_start, rows_before, symbol_of};
 
 use crate::near::{Known, beginning, position_near};
+use crate::selections::Extent;
 use crate::under_cursor::outer_start;
 use jx_edit::{Document, Encoding, Position};
 use jx_index::Row;
@@ -45,6 +47,40 @@ fn label_of(row: &Row) -> Span
     }
 }
 
+/// The positions of both ends of a value, as far as so many bytes go. Those of its member's start and of its name's end are known, which
+/// are the value's own where it has no name.
+fn extent_of(
+    document: &Document,
+    before: &[u8],
+    kept: usize,
+    row: &Row,
+    outer: Known,
+    label: Known,
+    encoding: Encoding,
+) -> Extent
+    requires begins { take (length before.now) document.now.bytes ≡ before.now }
+    requires outer { outer.position ≡ position_at encoding document.now.bytes (outer_start row.now) }
+    requires label { label.position ≡ position_at encoding document.now.bytes label.offset }
+    requires ends { label.offset ≡ min kept (label_of row.now.name row.now.span).end }
+    ensures { result ≡ extent_of encoding document.now.bytes kept row.now.span }
+{
+    match row.name {
+        None => Extent {
+            start: outer.position,
+            end: label.position,
+        },
+        Some(_) => {
+            let start = position_near(document, before, label, row.span.start, encoding);
+            let end = kept.min(row.span.end);
+            let end = position_near(document, before, start, end, encoding);
+            Extent {
+                start: start.position,
+                end: end.position,
+            }
+        }
+    }
+}
+
 /// A value with its positions, as far as so many bytes go. They are counted on from one that is known.
 fn symbol_of(
     document: &Document,
@@ -61,19 +97,17 @@ fn symbol_of(
     let outer = position_near(document, before, known, outer_start(row), encoding);
     let name_end = kept.min(label_of(row).end);
     let label = position_near(document, before, outer, name_end, encoding);
-    let start = position_near(document, before, label, row.span.start, encoding);
-    let value_end = kept.min(row.span.end);
-    let end = position_near(document, before, start, value_end, encoding);
+    let extent = extent_of(document, before, kept, row, outer, label, encoding);
     Symbol {
         row: *row,
         outer: outer.position,
         label: label.position,
-        start: start.position,
-        end: end.position,
+        start: extent.start,
+        end: extent.end,
     }
 }
 
-/// What is known behind a value: where a container begins, which has others in it, or where another value ends.
+/// The place that is known behind a value: where a container begins, which has others in it, or where another value ends.
 fn known_behind(symbol: &Symbol, kept: usize) -> Known
     ensures { (encoding : Encoding) (bytes : List ℕ) (row : Row) → symbol.now ≡ symbol_of encoding bytes kept row → result.position ≡ position_at encoding bytes result.offset }
 {
@@ -127,7 +161,7 @@ pub(crate) fn symbols_of(
         offset: 0,
         position: document.position_of(0, encoding),
     };
-    let mut symbols = Vec::new(alloc);
+    let mut symbols = Vec::with_capacity(alloc, first.len())?;
     for row in first {
         let symbol = symbol_of(document, before, kept, row, known, encoding);
         known = known_behind(&symbol, kept);

@@ -2,7 +2,7 @@
 ghost use Rattle.std.specs.Prelude.{◌≡◌, ◌++◌, ℕ, suc, OnOk, decimal};
 ghost use Rattle.std.specs.List.{flat_map};
 ghost use Rattle.jx_lex.specs.Token.{IsNumber};
-ghost use Rattle.jx_serve.specs.Words.{ends, position as position_words, range};
+ghost use Rattle.jx_serve.specs.Words.{ends, range};
 ghost use Rattle.jx_serve.specs.inside.Sound.{comma, list_head, IsWhole};
 
 use crate::hover::Hover;
@@ -30,28 +30,20 @@ pub(crate) fn add_number(out: &mut Vec<u8>, number: usize) -> Result<(), AllocEr
     out.extend_from_slice(buffer.format(number).as_bytes())
 }
 
-fn add_position(out: &mut Vec<u8>, position: Position) -> Result<(), AllocError>
-    ensures words { OnOk result (out.new.items ≡ out.old.items ++ position_words position) }
-    ensures value { OnOk result ((limit : ℕ) → IsWhole (suc limit) (position_words position)) }
-{
-    out.extend_from_slice(b"{\"line\":")?;
-    add_number(out, position.line)?;
-    out.extend_from_slice(b",\"character\":")?;
-    add_number(out, position.character)?;
-    out.extend_from_slice(b"}")?;
-    Ok(())
-}
-
-/// Adds the positions of both ends of a value.
+/// Adds the positions of both ends of a value. An outline has thousands, so what stands between two numbers is added at once.
 pub(crate) fn add_ends(out: &mut Vec<u8>, start: Position, end: Position) -> Result<(), AllocError>
     ensures words { OnOk result (out.new.items ≡ out.old.items ++ ends start end) }
     ensures value { OnOk result ((limit : ℕ) → IsWhole (suc (suc limit)) (ends start end)) }
 {
-    out.extend_from_slice(b"{\"start\":")?;
-    add_position(out, start)?;
-    out.extend_from_slice(b",\"end\":")?;
-    add_position(out, end)?;
-    out.extend_from_slice(b"}")?;
+    out.extend_from_slice(b"{\"start\":{\"line\":")?;
+    add_number(out, start.line)?;
+    out.extend_from_slice(b",\"character\":")?;
+    add_number(out, start.character)?;
+    out.extend_from_slice(b"},\"end\":{\"line\":")?;
+    add_number(out, end.line)?;
+    out.extend_from_slice(b",\"character\":")?;
+    add_number(out, end.character)?;
+    out.extend_from_slice(b"}}")?;
     Ok(())
 }
 

@@ -74,7 +74,7 @@ fn next_of(units: &mut Units<'_>) -> Option<Option<char>>
 }
 
 impl<'a> Characters<'a> {
-    /// Those of a string, by its bytes with the quotation marks.
+    /// The characters of a string, by its bytes with the quotation marks.
     pub fn of_string(string: &'a [u8]) -> Characters<'a>
         ensures { characters_left result ≡ utf16_chars (string_units string.now) }
     {

@@ -8,7 +8,7 @@ use crate::spelt::{behind, spelt_at};
 use crate::units::Units;
 
 impl<'a> Units<'a> {
-    /// Those that the bytes between the token starts of a string encode, from the first one on.
+    /// The units that the bytes between the quotation marks of a string encode, from the first one on.
     pub fn new(chars: &'a [u8]) -> Units<'a>
         ensures { units_left result ≡ chars_units InText 0 chars.now }
     {

@@ -38,7 +38,7 @@ impl Depth {
         }
     }
 
-    /// How many containers may stand open at once.
+    /// The number of containers that may stand open at once.
     pub fn containers(self) -> u32
         ensures value { result ≡ self }
         ensures within { result ≤ 65535 }

@@ -1,5 +1,5 @@
-//! What accumulators, workers and chunk queues know of reading: spans, a depth, and summaries of parts of a text that
-//! can be joined with their neighbours'.
+//! Spans, a depth, and summaries of parts of a text that can be joined with their neighbours': the facts of reading
+//! that accumulators, workers and chunk queues know.
 #![tactic(auto)]
 
 mod depth;

@@ -1,4 +1,4 @@
-// What is to be done with an input.
+// Work that is to be done with an input.
 ghost use Rattle.std.specs.Prelude.{◌≡◌};
 
 use crate::task::Task;
@@ -6,7 +6,7 @@ use jx_crew::Workers;
 use jx_run::Settings;
 use std::alloc::{AllocError, Global};
 
-/// What is to be done with an input.
+/// Work that is to be done with an input.
 #[derive(Debug, Drop)]
 pub struct Command {
     pub task: Task,

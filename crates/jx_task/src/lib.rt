@@ -1,4 +1,4 @@
-//! What may be asked of an input, and how it is to be read. It knows nothing of the words that ask for it.
+//! Questions that may be asked of an input, and how it is to be read. It knows nothing of the words that ask for it.
 #![tactic(auto)]
 
 mod command;

@@ -1,6 +1,6 @@
-// What may be asked of an input.
+// Questions that may be asked of an input.
 
-/// What is asked of an input.
+/// A question that is asked of an input.
 #[derive(Debug, Drop)]
 pub enum Task {
     /// Whether the whole input is a JSON text (RFC 8259, section 2).

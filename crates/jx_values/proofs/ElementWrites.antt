@@ -1,6 +1,6 @@
 -- How what is due is written batch by batch.
 use Rattle.std.specs.Prelude.{Option, Bool, false}
-use Rattle.std.proofs.Common.{◌≡◌, ℕ, ◌+◌, List, [], ◌++◌, refl, sym, ap, subst, ◌∙◌}
+use Rattle.std.proofs.Common.{◌≡◌, ℕ, List, [], ◌++◌, refl, sym, ap, subst, ◌∙◌}
 use Rattle.std.proofs.lemmas.List.{append-nil}
 use Rattle.std.specs.Io.KnownBytes.{Appends, Consumes, Keeps}
 use Rattle.std.proofs.KnownBytes.{Appends-trans, Consumes-trans, Consumes-nil, Consumes-kept, Appends-nil}
@@ -100,7 +100,7 @@ pub reports : (content : LineContent) (settings : Settings) (pointer : List ℕ)
     → each.reader.settings ≡ settings
     → IsAllWritten content pointer u n w x each sought
     → ((pointer bytes given : List ℕ) → HasTakenBy content pointer bytes given each → JudgedBy each.reader.settings 0 bytes verdict)
-    → ((pointer text given : List ℕ) → HasTakenBy content pointer text given each → HasSought content (any_names each.reader.settings) pointer text sought → JudgedBy each.reader.settings 0 text verdict
+    → ((text given : List ℕ) → HasTakenBy content pointer text given each → HasSought content (any_names each.reader.settings) pointer text sought → JudgedBy each.reader.settings 0 text verdict
     → TellsByVerdict content each.reader.settings pointer text verdict words)
     → exit ≡ exit_by words
     → (is_lost ≡ false → Appends told retold words)
@@ -111,7 +111,7 @@ reports content settings pointer u n w x is_lost told retold each sought verdict
       due = due_now content each.reader.settings pointer each h.text h.given law refl h.none_wait h.taken;
       verdict = verdict;
       is_verdict = is_verdict;
-      told = tells pointer h.text h.given h.taken h.looked is_verdict;
+      told = tells h.text h.given h.taken h.looked is_verdict;
       ends = ends;
     } in
     record {

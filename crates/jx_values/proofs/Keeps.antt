@@ -56,8 +56,16 @@ module _ (text batch : List ℕ) where
         whole = drop-append-le from text batch h.within ∙ ap (λ (l : List ℕ). l ++ batch) h.whole ∙ append_assoc bytes h.rest batch;
       }
 
+-- nothing is kept of any text
+pub none_kept : (text : List ℕ) (from : ℕ) (bytes : List ℕ) → from ≡ 0 → bytes ≡ [] → IsKept text from bytes
+none_kept text from bytes zero none = record {
+  within = omega (arith, zero);
+  rest = text;
+  whole = ap (λ (n : ℕ). drop n text) zero ∙ ap (λ (l : List ℕ). l ++ text) (sym none);
+}
+
 -- a span of the text among them
-pub kept_span : (text bytes : List ℕ) (from start end : ℕ) → IsKept text from bytes → from ≤ start → start ≤ end → end - from ≤ length bytes
+kept_span : (text bytes : List ℕ) (from start end : ℕ) → IsKept text from bytes → from ≤ start → start ≤ end → end - from ≤ length bytes
     → slice_range bytes (start - from) (end - from) ≡ slice_range text start end
 kept_span text bytes from start end h low order high =
     let a : ℕ = start - from in
@@ -73,4 +81,21 @@ kept_span text bytes from start end h low order high =
     ∙ sym (take-append-le (end - start) (drop a bytes) h.rest (omega (arith, left, low, order, high)))
     ∙ ap (take (end - start)) (sym whole)
 
--- ---- what is written and told of a value
+-- and in what they are appended to
+pub span_among : (text front bytes more : List ℕ) (before from start end first last : ℕ) → IsKept text from bytes → length front ≡ before → from ≤ start → start ≤ end → end - from ≤ length bytes
+    → first ≡ before + (start - from) → last ≡ before + (end - from) → slice_range ((front ++ bytes) ++ more) first last ≡ slice_range text start end
+span_among text front bytes more before from start end first last h long low order high is_first is_last =
+    let a : ℕ = start - from in
+    let b : ℕ = end - from in
+    let wide : last - first ≡ b - a = omega (arith, is_first, is_last, low, order) in
+    let at : first ≡ length front + a = omega (arith, is_first, long) in
+    let left : length (drop a bytes) ≡ length bytes - a = length-drop a bytes in
+    let behind : drop first ((front ++ bytes) ++ more) ≡ drop a bytes ++ more =
+    ap (λ (l : List ℕ). drop first l) (append_assoc front bytes more)
+    ∙ ap (λ (n : ℕ). drop n (front ++ (bytes ++ more))) at
+    ∙ drop-append-add front (bytes ++ more) a
+    ∙ drop-append-le a bytes more (omega (arith, low, order, high)) in
+    ap (λ (n : ℕ). take n (drop first ((front ++ bytes) ++ more))) wide
+    ∙ ap (λ (l : List ℕ). take (b - a) l) behind
+    ∙ take-append-le (b - a) (drop a bytes) more (omega (arith, left, high))
+    ∙ kept_span text bytes from start end h low order high

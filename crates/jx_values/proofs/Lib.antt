@@ -5,6 +5,8 @@ mod Lines
 mod Tells
 mod TextSteps
 mod Lookups
+mod ElementCounts
 mod Keeps
+mod Gathers
 mod Holds
 mod Looks

@@ -12,19 +12,19 @@ use Rattle.jx_index.specs.Found.{AreFoundIn, found_of}
 use Rattle.jx_index.specs.Leads.{led, led_from}
 use Rattle.jx_index.specs.Pointers.{parted, tokens}
 use Rattle.jx_each.specs.declared.content.LineContent.{LineContent}
-use Rattle.jx_each.specs.declared.content.LineContent.TheVariants.{Alone, Named}
+use Rattle.jx_each.specs.declared.content.LineContent.TheVariants.{Alone}
 use Rattle.jx_each.specs.Due.{is_container}
 use Rattle.jx_each.specs.Each.{EachValue, HasTaken, HasTakenBy}
 use Rattle.jx_values.specs.Elements.{TellsByVerdict, told_of_found}
-use Rattle.jx_values.specs.inside.Sought.{TellsFound, any_names, sought_of, told_of_root}
+use Rattle.jx_values.specs.inside.Sought.{TellsFound, any_names, sought_at_root, sought_of, told_of_root}
 
 -- ---- of a pointer that was looked up
 
 pub found_first : (content : LineContent) (settings : Settings) (text pointer : List ℕ) (items : List (Result Found FindFault)) (one : Result Found FindFault) (n : ℕ) (told : List ℕ) → AreFoundIn settings text (pointer ∷ []) items
-    → slice_get items 0 ≡ Some one → told ≡ told_of_found content one n → TellsFound content settings pointer text n told
+    → slice_get items 0 ≡ Some one → told ≡ told_of_found content pointer one n → TellsFound content settings pointer text n told
 found_first content settings text pointer [] one n told h is e = absurd (h.found_are)
 found_first content settings text pointer (first ∷ items) one n told h is e =
-    (h.tree, h.is_text, e ∙ ap (λ (r : Result Found FindFault). told_of_found content r n) (sym (some_is first one is) ∙ h.found_are.0))
+    (h.tree, h.is_text, e ∙ ap (λ (r : Result Found FindFault). told_of_found content pointer r n) (sym (some_is first one is) ∙ h.found_are.0))
   where
     or_first : Option (Result Found FindFault) → Result Found FindFault → Result Found FindFault
     or_first (Some x) d = x
@@ -39,11 +39,11 @@ any_document settings text tree d = record { front = d.front; rest = d.rest; is_
 
 pub tells_found : (content : LineContent) (settings : Settings) (pointer text told : List ℕ) (n : ℕ) → n ≡ length (tokens pointer) → TellsFound content (any_names settings) pointer text n told → TellsByVerdict content settings pointer text Accepted told
 tells_found content settings pointer text told n e h =
-    (h.0, any_document settings text h.0 h.1, h.2 ∙ ap (told_of_found content (found_of (led text h.0 (tokens pointer)))) e)
+    (h.0, any_document settings text h.0 h.1, h.2 ∙ ap (told_of_found content pointer (found_of (led text h.0 (tokens pointer)))) e)
 
 -- ---- of the root
 
-root_told : (text : List ℕ) (tree : Tree) → told_of_root (is_container tree) ≡ told_of_found Alone (found_of (led text tree (tokens []))) (length (tokens []))
+root_told : (text : List ℕ) (tree : Tree) → told_of_root (is_container tree) ≡ told_of_found Alone [] (found_of (led text tree (tokens []))) (length (tokens []))
 unfolding parted led_from
 root_told text (node kind.Array s below) = refl
 root_told text (node kind.Object s below) = refl
@@ -53,9 +53,9 @@ root_told text (node kind.True s below) = refl
 root_told text (node kind.False s below) = refl
 root_told text (node kind.Null s below) = refl
 
-pub sought_named : (pointer : List ℕ) → sought_of Named pointer ≡ pointer ∷ []
-sought_named [] = refl
-sought_named (b ∷ bytes) = refl
+pub sought_always : (content : LineContent) (pointer : List ℕ) → sought_at_root content ≡ [] ∷ [] → sought_of content pointer ≡ pointer ∷ []
+sought_always content [] at_root = at_root
+sought_always content (b ∷ bytes) at_root = refl
 
 -- where the root is not looked up, values alone are written
 pub taken_alone : (content : LineContent) (settings : Settings) (pointer text given : List ℕ) (each : EachValue) → (pointer ≡ []) × (content ≡ Alone) → HasTakenBy content pointer text given each → HasTaken pointer text given each
@@ -67,6 +67,6 @@ tells_root content settings pointer text told is none (a_text {tree = tree} d) c
   tree,
   d,
   e ∙ ap told_of_root (container tree d) ∙ root_told text tree
-      ∙ ap (λ (p : List ℕ). told_of_found Alone (found_of (led text tree (tokens p))) (length (tokens p))) (sym none.0)
-      ∙ ap (λ (c : LineContent). told_of_found c (found_of (led text tree (tokens pointer))) (length (tokens pointer))) (sym none.1),
+      ∙ ap (λ (p : List ℕ). told_of_found Alone p (found_of (led text tree (tokens p))) (length (tokens p))) (sym none.0)
+      ∙ ap (λ (c : LineContent). told_of_found c pointer (found_of (led text tree (tokens pointer))) (length (tokens pointer))) (sym none.1),
 )

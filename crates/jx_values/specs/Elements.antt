@@ -15,59 +15,61 @@ use Rattle.jx_index.specs.Found.{found_of}
 use Rattle.jx_index.specs.Leads.{led}
 use Rattle.jx_index.specs.Pointers.{tokens}
 use Rattle.jx_each.specs.declared.content.LineContent.{LineContent}
-use Rattle.jx_each.specs.declared.content.LineContent.TheVariants.{Alone, Named}
+use Rattle.jx_each.specs.declared.content.LineContent.TheVariants.{Alone, Named, NameAlone, Empty}
 use Rattle.jx_each.specs.Due.{IsDueBy}
 use Rattle.jx_ends.specs.declared.exit.Exit.{Exit}
 use Rattle.jx_words.specs.declared.pointer_answer.PointerAnswer.TheVariants.{Lost}
 use Rattle.jx_ends.specs.Ends.{ReadsToEnd, AppendsBeginning}
 use Rattle.jx_words.specs.Pointers.{answer_words}
 use Rattle.jx_words.specs.Words.{line, refusal_words}
-use Rattle.jx_values.specs.Values.{exit_by}
+use Rattle.jx_values.specs.Values.{exit_by, told_words}
 
 -- ---- of an input
 
 -- that a pointer leads to no container
-abbrev pub told_of_fault : FindFault → List ℕ
-told_of_fault fault = codes "jx: " ++ line (answer_words (Lost fault))
+abbrev pub told_of_fault : List ℕ → FindFault → List ℕ
+told_of_fault pointer fault = told_words pointer (answer_words (Lost fault))
 
--- that so many tokens lead to no object
-abbrev pub told_of_no_object : ℕ → List ℕ
-told_of_no_object n = codes "jx: " ++ line (codes "not an object at token " ++ decimal n)
+-- that it leads, by so many tokens, to no object
+abbrev pub told_of_no_object : List ℕ → ℕ → List ℕ
+told_of_no_object pointer n = told_words pointer (codes "not an object at token " ++ decimal n)
 
 -- of a value of this kind, to which so many tokens lead: nothing where it has elements
-abbrev pub told_of_kind : Kind → ℕ → List ℕ
-told_of_kind Object n = []
-told_of_kind Array n = []
-told_of_kind String n = told_of_fault (NotAContainer n)
-told_of_kind Number n = told_of_fault (NotAContainer n)
-told_of_kind True n = told_of_fault (NotAContainer n)
-told_of_kind False n = told_of_fault (NotAContainer n)
-told_of_kind Null n = told_of_fault (NotAContainer n)
+abbrev pub told_of_kind : List ℕ → Kind → ℕ → List ℕ
+told_of_kind pointer Object n = []
+told_of_kind pointer Array n = []
+told_of_kind pointer String n = told_of_fault pointer (NotAContainer n)
+told_of_kind pointer Number n = told_of_fault pointer (NotAContainer n)
+told_of_kind pointer True n = told_of_fault pointer (NotAContainer n)
+told_of_kind pointer False n = told_of_fault pointer (NotAContainer n)
+told_of_kind pointer Null n = told_of_fault pointer (NotAContainer n)
 
 -- the same where names are written: nothing where it has members
-abbrev pub told_of_named : Kind → ℕ → List ℕ
-told_of_named Object n = []
-told_of_named Array n = told_of_no_object n
-told_of_named String n = told_of_no_object n
-told_of_named Number n = told_of_no_object n
-told_of_named True n = told_of_no_object n
-told_of_named False n = told_of_no_object n
-told_of_named Null n = told_of_no_object n
+abbrev pub told_of_named : List ℕ → Kind → ℕ → List ℕ
+told_of_named pointer Object n = []
+told_of_named pointer Array n = told_of_no_object pointer n
+told_of_named pointer String n = told_of_no_object pointer n
+told_of_named pointer Number n = told_of_no_object pointer n
+told_of_named pointer True n = told_of_no_object pointer n
+told_of_named pointer False n = told_of_no_object pointer n
+told_of_named pointer Null n = told_of_no_object pointer n
 
-abbrev pub told_of_value : LineContent → Kind → ℕ → List ℕ
-told_of_value Alone kind n = told_of_kind kind n
-told_of_value Named kind n = told_of_named kind n
+abbrev pub told_of_value : LineContent → List ℕ → Kind → ℕ → List ℕ
+told_of_value Alone pointer kind n = told_of_kind pointer kind n
+told_of_value Named pointer kind n = told_of_named pointer kind n
+told_of_value NameAlone pointer kind n = told_of_named pointer kind n
+told_of_value Empty pointer kind n = told_of_kind pointer kind n
 
--- of what so many tokens lead to
-abbrev pub told_of_found : LineContent → Result Found FindFault → ℕ → List ℕ
-told_of_found content (Ok found) n = told_of_value content found.kind n
-told_of_found content (Err fault) n = told_of_fault fault
+-- of what a pointer of so many tokens leads to
+abbrev pub told_of_found : LineContent → List ℕ → Result Found FindFault → ℕ → List ℕ
+told_of_found content pointer (Ok found) n = told_of_value content pointer found.kind n
+told_of_found content pointer (Err fault) n = told_of_fault pointer fault
 
 -- of a refused input its verdict, and of a text what the pointer leads to in its tree
 abbrev pub TellsByVerdict : LineContent → Settings → List ℕ → List ℕ → Verdict → List ℕ → Type 0
 TellsByVerdict content settings pointer input Accepted tells =
-    (tree : Tree) × IsDocumentBy settings 0 input tree × (tells ≡ told_of_found content (found_of (led input tree (tokens pointer))) (length (tokens pointer)))
-TellsByVerdict content settings pointer input (Refused refusal) tells = tells ≡ codes "jx: " ++ line (refusal_words refusal)
+    (tree : Tree) × IsDocumentBy settings 0 input tree × (tells ≡ told_of_found content pointer (found_of (led input tree (tokens pointer))) (length (tokens pointer)))
+TellsByVerdict content settings pointer input (Refused refusal) tells = tells ≡ line (refusal_words refusal)
 
 -- the whole output for an input, all that is reported of it, and the status
 pub record ElementsOutput (content : LineContent) (settings : Settings) (pointer input output tells : List ℕ) (exit : Exit) : Type 0 where

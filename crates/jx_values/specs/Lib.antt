@@ -1,4 +1,5 @@
 pub mod Elements
+pub mod Counts
 pub mod Alike
 pub mod Reports
 pub mod Values

@@ -17,6 +17,7 @@ use Rattle.jx_ends.specs.declared.exit.Exit.TheVariants.{Good, Bad}
 use Rattle.jx_words.specs.declared.pointer_answer.PointerAnswer.{PointerAnswer}
 use Rattle.jx_words.specs.declared.pointer_answer.PointerAnswer.TheVariants.{Found, Unread, Lost}
 use Rattle.jx_words.specs.Pointers.{IsAnswerTo, answer_words}
+use Rattle.jx_words.specs.Showing.{shown}
 use Rattle.jx_words.specs.Words.{line, refusal_words}
 use Rattle.jx_values.specs.declared.form.Form.{Form}
 
@@ -35,13 +36,13 @@ is_string True = false
 is_string False = false
 is_string Null = false
 
--- what is written for it: where texts are asked for, of a string its text, if it has one
+-- the bytes that are written for it: where texts are asked for, of a string its text, if it has one
 abbrev pub value_written : Form → Kind → List ℕ → Option (List ℕ)
 value_written form kind bytes = if form.is_raw && is_string kind then text_of bytes else Some (formed form bytes)
 
 -- ---- of one pointer
 
--- what is written for it in a text; none where it has no value, or a string without a text
+-- the bytes that are written for it in a text; none where it has no value, or a string without a text
 abbrev pub written : Form → List ℕ → PointerAnswer → Option (List ℕ)
 written form text (Found kind span) = value_written form kind (slice_range text span.start span.end)
 written form text (Unread fault) = None
@@ -50,9 +51,9 @@ written form text (Lost fault) = None
 abbrev pub value_line : Form → List ℕ → PointerAnswer → List ℕ
 value_line form text answer = line (unwrap_or (written form text answer) [])
 
--- jx: POINTER: WORDS
+-- POINTER: WORDS
 abbrev pub told_words : List ℕ → List ℕ → List ℕ
-told_words pointer words = codes "jx: " ++ pointer ++ codes ": " ++ line words
+told_words pointer words = shown pointer ++ codes ": " ++ line words
 
 -- the report on a value by what is written for it
 abbrev pub told_of_value : List ℕ → Option (List ℕ) → List ℕ
@@ -87,10 +88,10 @@ pub record GivesValues (form : Form) (task : ValuesTask) (text output tells : Li
   pub written : output ≡ flat_map (value_line form text) answers
   pub told : tells ≡ told_lines form text (map string_bytes task.pointers.items) answers
 
--- for what is refused: nothing is written, and jx: VERDICT is reported
+-- for what is refused: nothing is written, and the verdict is reported
 pub record GivesNone (refusal : Refusal) (output tells : List ℕ) : Type 0 where
   pub written : output ≡ []
-  pub told : tells ≡ codes "jx: " ++ line (refusal_words refusal)
+  pub told : tells ≡ line (refusal_words refusal)
 
 abbrev pub GivesByVerdict : Form → ValuesTask → List ℕ → Verdict → List ℕ → List ℕ → Type 0
 GivesByVerdict form task input Accepted output tells = GivesValues form task input output tells

@@ -5,3 +5,4 @@ pub mod Kept
 pub mod Moved
 pub mod Replies
 pub mod Sought
+pub mod Tally

@@ -108,9 +108,9 @@ fn room_for<R, G>(crew: &Crew<'_, R, G>) -> usize
 
 /// Reads to the end of input, and writes a line for each element of the array that a pointer leads to, by the first
 /// member of each of its names (RFC 6901, section 4), or for the value of each member of the object: its compact form.
-/// Where `content` asks for names, it writes a line for each member of an object alone. Each line is written before the
-/// next read may wait. After that it reports why the input is not valid JSON, by a line `jx: VERDICT`, or why the
-/// pointer leads to no container, or to no object where names are asked for, by a line `jx: ANSWER`. A name on its way
+/// Where `content` asks for names, it writes a line for each member of an object alone: its name and value, or its name.
+/// Each line is written before the next read may wait. After that it reports why the input is not valid JSON, by a line with the verdict, or why the
+/// pointer leads to no container, or to no object where names are asked for, by a line `POINTER: ANSWER`. A name on its way
 /// that is repeated is reported too. The status is good where nothing is reported.
 ///
 /// A written line is never taken back: of a refused input the lines are those of the elements whose comma or bracket is
@@ -169,7 +169,7 @@ pub fn report_elements<R: Threads + Wait + Sync, S: Source, W: Sink, E: Sink, G:
         &mut buffer,
         piece.max(1),
     )?;
-    let told = told_of_elements(alloc, content, &each, verdict_of(&each), sought)?;
+    let told = told_of_elements(alloc, content, pointer, &each, verdict_of(&each), sought)?;
     tell(errors, &told);
     Ok(exit_by(&told))
 }

@@ -1,6 +1,6 @@
 // Bytes of a text that is read batch by batch, from an offset on.
-ghost use Rattle.std.specs.Prelude.{◌≡◌, ◌+◌, ◌<◌, ◌^◌, ◌++◌, ℕ, List, [], length, slice_range, IfSome, OnOk};
-ghost use Rattle.jx_values.specs.inside.Kept.{IsKept};
+ghost use Rattle.std.specs.Prelude.{◌≡◌, ◌+◌, ◌<◌, ◌^◌, ◌++◌, ℕ, List, length, slice_range, IfSome, OnOk};
+ghost use Rattle.jx_values.specs.inside.Kept.{IsKept, IsKeptOf};
 
 use jx_lex::Span;
 use std::alloc::{AllocError, Global};
@@ -13,9 +13,9 @@ pub struct Kept {
 }
 
 impl Kept {
-    /// None yet.
+    /// None, of any text.
     pub(crate) fn new(alloc: Global) -> Kept
-        ensures { IsKept [] result.from result.bytes.items }
+        ensures { (text : List ℕ) → IsKeptOf text result }
     {
         Kept {
             from: 0,
@@ -23,7 +23,7 @@ impl Kept {
         }
     }
 
-    /// Takes in what is wanted of a batch after so many bytes. What was kept is freed where none of it is wanted any
+    /// Takes in what is wanted of a batch after so many bytes. What was kept is let go where none of it is wanted any
     /// more.
     pub(crate) fn keep(&mut self, batch: &[u8], base: usize, wanted: Span) -> Result<(), AllocError>
         requires { base + length batch.now < 2 ^ 64 }
@@ -45,10 +45,10 @@ impl Kept {
         Ok(())
     }
 
-    /// A span of the text among these bytes, if they have it.
-    pub(crate) fn span_here(&self, span: Span) -> Option<Span>
-        ensures { IfSome result (λ here. (text : List ℕ) → IsKept text self.now.from self.now.bytes.items
-            → slice_range self.now.bytes.items here.start here.end ≡ slice_range text span.start span.end) }
+    /// A span of the text in the bytes that these are appended to, of which there are so many, if these have it.
+    pub(crate) fn span_among(&self, before: usize, span: Span) -> Option<Span>
+        ensures { IfSome result (λ here. (text front more : List ℕ) → IsKeptOf text self.now → length front ≡ before
+            → slice_range ((front ++ self.now.bytes.items) ++ more) here.start here.end ≡ slice_range text span.start span.end) }
     {
         if span.start < self.from {
             return None;
@@ -59,9 +59,23 @@ impl Kept {
         if self.bytes.len() < span.end - self.from {
             return None;
         }
-        Some(Span {
-            start: span.start - self.from,
-            end: span.end - self.from,
-        })
+        let Some(start) = before.checked_add(span.start - self.from) else {
+            return None;
+        };
+        let Some(end) = before.checked_add(span.end - self.from) else {
+            return None;
+        };
+        Some(Span { start, end })
+    }
+
+    /// Appends these bytes to others. Where there are no others, nothing is copied.
+    pub(crate) fn append_to(self, bytes: &mut Vec<u8>) -> Result<(), AllocError>
+        ensures { OnOk result (bytes.new.items ≡ bytes.old.items ++ self.bytes.items) }
+    {
+        if bytes.is_empty() {
+            *bytes = self.bytes;
+            return Ok(());
+        }
+        bytes.extend_from_slice(&self.bytes)
     }
 }

@@ -3,8 +3,11 @@
 #![tactic(auto)]
 
 mod compact;
+mod counting;
 mod elements;
 mod form;
+mod gathered;
+mod hints;
 mod kept;
 mod laws;
 mod putting;
@@ -12,14 +15,16 @@ mod raw;
 mod reply;
 mod reporting;
 mod sought;
+mod tally;
 mod telling;
 mod value;
 mod value_reader;
 mod writing;
 
+pub use counting::report_count;
 pub use elements::report_elements;
 pub use form::Form;
 pub use laws::compact_tree;
 pub use reporting::report_values;
-pub use telling::{add_told, exit_by, tell};
+pub use telling::{add_told, exit_by, tell, told_of_refusal};
 pub use writing::write_values;

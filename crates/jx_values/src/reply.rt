@@ -22,7 +22,7 @@ pub struct Reply {
     pub told: Vec<u8>,
 }
 
-/// A reply, and bytes of the text, among which the answers have their spans: all of them, or those of the value that is written.
+/// A reply, and bytes of the text, among which the answers have their spans: all of them, or those of the values that are written.
 #[derive(Drop)]
 pub struct Held {
     pub text: Vec<u8>,

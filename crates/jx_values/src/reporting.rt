@@ -1,19 +1,17 @@
-ghost use Rattle.std.specs.Prelude.{◌≡◌, ◌≢◌, ◌<◌, ◌≤◌, ◌↔◌, ◌∷◌, [], length, map, string_bytes, true, false, IfOk, IfErr, IfSome, IsErrOf, OnErr, OnOk};
+ghost use Rattle.std.specs.Prelude.{◌≡◌, ◌≢◌, ◌<◌, ◌≤◌, ◌↔◌, [], length, map, string_bytes, true, false, IfOk, IfErr, IsErrOf, OnErr, OnOk};
 ghost use Rattle.jx_run.specs.declared.texts.settings.NameRule.TheVariants.{Any};
-ghost use Rattle.jx_index.specs.Pointers.{IsPointer};
 ghost use Rattle.jx_report.specs.Reports.{greatest_length};
 ghost use Rattle.jx_values.specs.Reports.{IsTooLong, ReportsValues, ReportsValuesInPart};
-ghost use Rattle.jx_values.specs.inside.Kept.{IsAllRead, IsHeldAnswer, IsValueRead};
+ghost use Rattle.jx_values.specs.inside.Kept.{AreAllRead, AreValuesRead, IsHeldAnswer};
 
 use crate::form::Form;
 use crate::reply::{Held, reply_on};
 use crate::telling::{exit_by, tell};
-use crate::value_reader::ValueReader;
+use crate::value_reader::ValuesReader;
 use crate::writing::write_values;
 use jx_claim::Cutting;
 use jx_crew::{Crew, Gate};
 use jx_ends::{Exit, ReportFault, Sink, Source, read_to_end};
-use jx_index::Pointer;
 use jx_run::{NameRule, Settings};
 use jx_task::ValuesTask;
 use std::alloc::Global;
@@ -23,37 +21,35 @@ use std::thread::Threads;
 /// How many bytes are written at a time, where values are shorter.
 const BUFFER: usize = 64 * 1024;
 
-/// How many bytes are read at a time, at most, where one pointer is looked up. What is read is looked at before it leaves the
-/// processor's cache.
+/// How many bytes are read at a time, at most, where pointers are looked up while the input is read. What is read is looked
+/// at before it leaves the processor's cache.
 const STEP: usize = 256 * 1024;
 
-/// The pointer of a task that asks for one alone, where the string is one and objects may have any names.
-fn only_pointer(task: &ValuesTask) -> Option<&str>
-    ensures only { IfSome result (λ pointer. map string_bytes task.now.pointers.items ≡ pointer.now ∷ []) }
-    ensures is_pointer { IfSome result (λ pointer. IsPointer pointer.now) }
-    ensures any { IfSome result (λ _. task.now.settings.names ≡ Any) }
+/// How many pointers are looked up so, at most. Each is asked after each read, and one value inside another is kept twice.
+const FEW: usize = 64;
+
+/// Whether the pointers of a task are few, and objects may have any names.
+fn are_few(task: &ValuesTask) -> bool
+    ensures { result ≡ true → task.now.settings.names ≡ Any }
 {
-    match (task.pointers.as_slice(), task.settings.names) {
-        ([pointer], NameRule::Any) => match Pointer::read(pointer.as_str()) {
-            Ok(_) => Some(pointer.as_str()),
-            Err(_) => None,
-        },
-        _ => None,
+    match task.settings.names {
+        NameRule::Any => task.pointers.len() <= FEW,
+        NameRule::Unique => false,
     }
 }
 
-/// Reads to the end of input, and looks the pointer up in what each read gives.
+/// Reads to the end of input, and looks pointers up in what each read gives.
 fn look_up_all<S: Source>(
     reader: &mut S,
-    value: &mut ValueReader<'_>,
+    values: &mut ValuesReader<'_>,
     settings: &Settings,
-    pointer: &str,
+    spelt: &[String],
     buffer: &mut [u8],
 ) -> Result<(), ReportFault>
     requires reader { S.has_failed reader.old ≡ false }
     requires room { 0 < length buffer.old }
-    requires looked { IsValueRead settings.now pointer.now [] value.old }
-    ensures ok { OnOk result (IsAllRead settings.now pointer.now (S.remaining reader.old) (S.remaining reader.new) value.new) }
+    requires looked { AreValuesRead settings.now (map string_bytes spelt.now) [] values.old }
+    ensures ok { OnOk result (AreAllRead settings.now (map string_bytes spelt.now) (S.remaining reader.old) (S.remaining reader.new) values.new) }
     ensures read { IsErrOf result ReportFault.Read ↔ (S.has_failed reader.new ≡ true) }
     ensures going { OnOk result (S.has_failed reader.new ≡ false) }
     ensures unwritten { IfErr result (λ fault. fault ≢ ReportFault.Write) }
@@ -62,7 +58,7 @@ fn look_up_all<S: Source>(
     for _ in 0..u64::MAX {
         match reader.read(buffer) {
             Ok(0) => return Ok(()),
-            Ok(count) => value.read(&buffer[..count])?,
+            Ok(count) => values.read(&buffer[..count])?,
             Err(_) => return Err(ReportFault::Read),
         }
     }
@@ -83,18 +79,15 @@ fn count_pieces(len: usize, piece: usize) -> Result<(), ReportFault>
     Ok(())
 }
 
-/// Reads to the end of input, and answers the only pointer of a task, while what is read is freed but for its value.
-fn held_for_one<S: Source>(
+/// Reads to the end of input, and answers the few pointers of a task, while what is read is freed but for their values.
+fn held_for_few<S: Source>(
     alloc: Global,
     reader: &mut S,
     form: Form,
     task: &ValuesTask,
-    pointer: &str,
 ) -> Result<Held, ReportFault>
     requires reader { S.has_failed reader.old ≡ false }
-    requires only { map string_bytes task.now.pointers.items ≡ pointer.now ∷ [] }
     requires any { task.now.settings.names ≡ Any }
-    requires pointer { IsPointer pointer.now }
     requires piece { 1 ≤ task.now.piece }
     ensures ok { IfOk result (IsHeldAnswer form task.now (S.remaining reader.old) (S.remaining reader.new)) }
     ensures read { IsErrOf result ReportFault.Read ↔ (S.has_failed reader.new ≡ true) }
@@ -102,11 +95,12 @@ fn held_for_one<S: Source>(
     ensures pieces { IsErrOf result ReportFault.Pieces → IsTooLong task.now.piece (S.remaining reader.old) (S.remaining reader.new) }
 {
     let settings = &task.settings;
-    let mut value = ValueReader::new(alloc, settings, pointer)?;
+    let spelt = task.pointers.as_slice();
+    let mut values = ValuesReader::new(alloc, settings, spelt)?;
     let mut buffer: Vec<u8> = vec![in alloc; 0; STEP]?;
-    look_up_all(reader, &mut value, settings, pointer, &mut buffer)?;
-    count_pieces(value.end(), task.piece)?;
-    let held = value.into_held(form, pointer)?;
+    look_up_all(reader, &mut values, settings, spelt, &mut buffer)?;
+    count_pieces(values.end(), task.piece)?;
+    let held = values.into_held(form, task)?;
     Ok(held)
 }
 
@@ -143,22 +137,23 @@ fn held_for<R: Threads + Wait + Sync, S: Source, G: Gate + Sync>(
     ensures unwritten { IfErr result (λ fault. fault ≢ ReportFault.Write) }
     ensures pieces { IsErrOf result ReportFault.Pieces → IsTooLong task.now.piece (S.remaining reader.old) (S.remaining reader.new) }
 {
-    match only_pointer(task) {
-        Some(pointer) => held_for_one(crew.alloc, reader, form, task, pointer),
-        None => held_for_all(crew, reader, form, task),
+    if are_few(task) {
+        held_for_few(crew.alloc, reader, form, task)
+    } else {
+        held_for_all(crew, reader, form, task)
     }
 }
 
 /// Reads to the end of input, looks pointers up in it, and writes a line for each, in their order: the bytes of its
 /// value, their compact form, or where texts are asked for that of a string. The line is empty where there is none of
-/// these. After that it reports why, by a line `jx: POINTER: ANSWER`. Of a text that is refused nothing is written, and
-/// `jx: VERDICT` is reported. The status is good where nothing is reported.
+/// these. After that it reports why, by a line `POINTER: ANSWER`. Of a text that is refused nothing is written, and its
+/// verdict is reported. The status is good where nothing is reported.
 ///
-/// The text is kept, or of a single pointer its value while it is read, where objects may have any names. Values are
-/// written from where they stand in it. No memory is taken once the first byte is written. Where reporting fails, no
-/// more is reported, and the status is the same. Many pointers are looked up in an index by the workers. Where names
-/// have to be unique and pointers are few, the workers judge the text first. They ask the gate; a thread that reads
-/// alone asks nothing.
+/// Where objects may have any names and pointers are few, only the bytes of their values are kept while the text is read.
+/// Else the text is kept. Values are written from where they stand in what is kept. No memory is taken once the first
+/// byte is written. Where reporting fails, no more is reported, and the status is the same. Many pointers are looked up
+/// in an index by the workers. Where names have to be unique and pointers are few, the workers judge the text first.
+/// They ask the gate; a thread that reads alone asks nothing.
 pub fn report_values<R: Threads + Wait + Sync, S: Source, W: Sink, E: Sink, G: Gate + Sync>(
     rt: &R,
     alloc: Global,

@@ -1,16 +1,17 @@
 // The answer to the pointer to a container, looked up while elements are written, and the report on it.
-ghost use Rattle.std.specs.Prelude.{◌≡◌, ◌++◌, ◌∷◌, [], ℕ, List, IfOk, OnOk, slice_get};
+ghost use Rattle.std.specs.Prelude.{◌≡◌, ◌++◌, ◌∷◌, [], ℕ, List, IfOk, OnOk, codes, decimal, slice_get};
 ghost use Rattle.jx_run.specs.declared.texts.settings.Settings.{Settings};
 ghost use Rattle.jx_run.specs.Settings.{JudgedBy};
 ghost use Rattle.jx_index.specs.Pointers.{IsPointer};
 ghost use Rattle.jx_find.specs.Finder.{HasFed};
+ghost use Rattle.jx_words.specs.Words.{line};
 ghost use Rattle.jx_each.specs.declared.content.LineContent.{LineContent};
 ghost use Rattle.jx_each.specs.declared.content.LineContent.TheVariants.{Alone};
 ghost use Rattle.jx_each.specs.Each.{HasTakenBy};
 ghost use Rattle.jx_values.specs.Elements.{TellsByVerdict, told_of_fault, told_of_found, told_of_kind, told_of_named, told_of_no_object, told_of_value};
 ghost use Rattle.jx_values.specs.inside.Sought.{HasSought, TellsFound, any_names, sought_of, told_of_root};
 
-use crate::telling::told_of_refusal;
+use crate::telling::{add_front, told_of_refusal};
 use jx_each::{Each, LineContent};
 use jx_find::Finder;
 use jx_index::{FindFault, Found, Pointer};
@@ -24,37 +25,64 @@ use std::alloc::{AllocError, Global};
 pub(crate) type Sought<'p> = Option<Finder<'p>>;
 
 /// The report on a text in which a pointer of so many tokens leads to a value of this kind.
-fn told_of_kind(alloc: Global, kind: Kind, tokens: usize) -> Result<Vec<u8>, AllocError>
-    ensures { IfOk result (λ told. told.items ≡ told_of_kind kind tokens) }
+fn told_of_kind(
+    alloc: Global,
+    pointer: &str,
+    kind: Kind,
+    tokens: usize,
+) -> Result<Vec<u8>, AllocError>
+    ensures { IfOk result (λ told. told.items ≡ told_of_kind pointer.now kind tokens) }
 {
     match kind {
         Kind::Object | Kind::Array => Ok(Vec::new(alloc)),
         Kind::String | Kind::Number | Kind::True | Kind::False | Kind::Null => {
-            told_of_fault(alloc, FindFault::NotAContainer { token: tokens })
+            told_of_fault(alloc, pointer, FindFault::NotAContainer { token: tokens })
         }
     }
 }
 
 /// The report on such a text where names are written: an object has some, and no other value.
-fn told_of_named(alloc: Global, kind: Kind, tokens: usize) -> Result<Vec<u8>, AllocError>
-    ensures { IfOk result (λ told. told.items ≡ told_of_named kind tokens) }
+fn told_of_named(
+    alloc: Global,
+    pointer: &str,
+    kind: Kind,
+    tokens: usize,
+) -> Result<Vec<u8>, AllocError>
+    ensures { IfOk result (λ told. told.items ≡ told_of_named pointer.now kind tokens) }
 {
     match kind {
         Kind::Object => Ok(Vec::new(alloc)),
         Kind::Array | Kind::String | Kind::Number | Kind::True | Kind::False | Kind::Null => {
-            told_of_no_object(alloc, tokens)
+            told_of_no_object(alloc, pointer, tokens)
         }
     }
 }
 
-/// The report on a pointer of so many tokens that leads to no object.
-fn told_of_no_object(alloc: Global, tokens: usize) -> Result<Vec<u8>, AllocError>
-    ensures { IfOk result (λ told. told.items ≡ told_of_no_object tokens) }
+/// Appends that a pointer of so many tokens leads to no object.
+fn add_no_object(told: &mut Vec<u8>, tokens: usize) -> Result<(), AllocError>
+    ensures { OnOk result (told.new.items ≡ told.old.items ++ (codes "not an object at token " ++ decimal tokens)) }
 {
-    let mut told = Vec::from_slice(alloc, b"jx: ")?;
     told.extend_from_slice(b"not an object at token ")?;
-    add_number(&mut told, tokens)?;
+    add_number(told, tokens)?;
+    Ok(())
+}
+
+/// Appends this as a line.
+fn add_no_object_line(told: &mut Vec<u8>, tokens: usize) -> Result<(), AllocError>
+    ensures { OnOk result (told.new.items ≡ told.old.items ++ line (codes "not an object at token " ++ decimal tokens)) }
+{
+    add_no_object(told, tokens)?;
     told.push(b'\n')?;
+    Ok(())
+}
+
+/// The report on a pointer of so many tokens that leads to no object.
+fn told_of_no_object(alloc: Global, pointer: &str, tokens: usize) -> Result<Vec<u8>, AllocError>
+    ensures { IfOk result (λ told. told.items ≡ told_of_no_object pointer.now tokens) }
+{
+    let mut told = Vec::new(alloc);
+    add_front(&mut told, pointer)?;
+    add_no_object_line(&mut told, tokens)?;
     Ok(told)
 }
 
@@ -62,22 +90,26 @@ fn told_of_no_object(alloc: Global, tokens: usize) -> Result<Vec<u8>, AllocError
 fn told_of_value(
     alloc: Global,
     content: LineContent,
+    pointer: &str,
     kind: Kind,
     tokens: usize,
 ) -> Result<Vec<u8>, AllocError>
-    ensures { IfOk result (λ told. told.items ≡ told_of_value content kind tokens) }
+    ensures { IfOk result (λ told. told.items ≡ told_of_value content pointer.now kind tokens) }
 {
     match content {
-        LineContent::Alone => told_of_kind(alloc, kind, tokens),
-        LineContent::Named => told_of_named(alloc, kind, tokens),
+        LineContent::Alone => told_of_kind(alloc, pointer, kind, tokens),
+        LineContent::Named => told_of_named(alloc, pointer, kind, tokens),
+        LineContent::NameAlone => told_of_named(alloc, pointer, kind, tokens),
+        LineContent::Empty => told_of_kind(alloc, pointer, kind, tokens),
     }
 }
 
 /// The report on a pointer that leads to no container.
-fn told_of_fault(alloc: Global, fault: FindFault) -> Result<Vec<u8>, AllocError>
-    ensures { IfOk result (λ told. told.items ≡ told_of_fault fault) }
+fn told_of_fault(alloc: Global, pointer: &str, fault: FindFault) -> Result<Vec<u8>, AllocError>
+    ensures { IfOk result (λ told. told.items ≡ told_of_fault pointer.now fault) }
 {
-    let mut told = Vec::from_slice(alloc, b"jx: ")?;
+    let mut told = Vec::new(alloc);
+    add_front(&mut told, pointer)?;
     add_answer(&mut told, PointerAnswer::Lost(fault))?;
     Ok(told)
 }
@@ -86,14 +118,15 @@ fn told_of_fault(alloc: Global, fault: FindFault) -> Result<Vec<u8>, AllocError>
 fn told_of_found(
     alloc: Global,
     content: LineContent,
+    pointer: &str,
     found: Result<Found, FindFault>,
     tokens: usize,
 ) -> Result<Vec<u8>, AllocError>
-    ensures { IfOk result (λ told. told.items ≡ told_of_found content found tokens) }
+    ensures { IfOk result (λ told. told.items ≡ told_of_found content pointer.now found tokens) }
 {
     match found {
-        Ok(found) => told_of_value(alloc, content, found.kind, tokens),
-        Err(fault) => told_of_fault(alloc, fault),
+        Ok(found) => told_of_value(alloc, content, pointer, found.kind, tokens),
+        Err(fault) => told_of_fault(alloc, pointer, fault),
     }
 }
 
@@ -104,7 +137,7 @@ fn told_of_root(alloc: Global, is_container: bool) -> Result<Vec<u8>, AllocError
     if is_container {
         Ok(Vec::new(alloc))
     } else {
-        told_of_fault(alloc, FindFault::NotAContainer { token: 0 })
+        told_of_fault(alloc, "", FindFault::NotAContainer { token: 0 })
     }
 }
 
@@ -122,16 +155,17 @@ pub(crate) fn first_of(found: &[Result<Found, FindFault>]) -> Option<Result<Foun
 fn told_of_sought(
     alloc: Global,
     content: LineContent,
+    pointer: &str,
     finder: Finder<'_>,
     tokens: usize,
 ) -> Result<Vec<u8>, AllocError>
-    ensures { IfOk result (λ told. (settings : Settings) (pointer bytes : List ℕ) → HasFed settings (pointer ∷ []) bytes finder.entry → TellsFound content settings pointer bytes tokens told.items) }
+    ensures { IfOk result (λ told. (settings : Settings) (bytes : List ℕ) → HasFed settings (pointer.now ∷ []) bytes finder.entry → TellsFound content settings pointer.now bytes tokens told.items) }
 {
     let Ok(found) = finder.finish()? else {
         return Err(AllocError);
     };
     match first_of(&found) {
-        Some(found) => told_of_found(alloc, content, found, tokens),
+        Some(found) => told_of_found(alloc, content, pointer, found, tokens),
         None => Err(AllocError),
     }
 }
@@ -147,17 +181,18 @@ pub(crate) fn verdict_of(each: &Each) -> Verdict
 pub(crate) fn told_of_elements(
     alloc: Global,
     content: LineContent,
+    pointer: &str,
     each: &Each,
     verdict: Verdict,
     sought: Sought<'_>,
 ) -> Result<Vec<u8>, AllocError>
-    ensures { IfOk result (λ told. (pointer text given : List ℕ) → HasTakenBy content pointer text given each.now → HasSought content (any_names each.now.reader.settings) pointer text sought.entry
-        → JudgedBy each.now.reader.settings 0 text verdict → TellsByVerdict content each.now.reader.settings pointer text verdict told.items) }
+    ensures { IfOk result (λ told. (text given : List ℕ) → HasTakenBy content pointer.now text given each.now → HasSought content (any_names each.now.reader.settings) pointer.now text sought.entry
+        → JudgedBy each.now.reader.settings 0 text verdict → TellsByVerdict content each.now.reader.settings pointer.now text verdict told.items) }
 {
     match verdict {
         Verdict::Refused(refusal) => told_of_refusal(alloc, refusal),
         Verdict::Accepted => match sought {
-            Some(finder) => told_of_sought(alloc, content, finder, each.token_count()),
+            Some(finder) => told_of_sought(alloc, content, pointer, finder, each.token_count()),
             None => told_of_root(alloc, each.is_container()),
         },
     }
@@ -189,7 +224,7 @@ fn pointer_to_part<'p>(alloc: Global, pointer: &'p str) -> Result<Vec<Pointer<'p
     one_pointer(alloc, pointer)
 }
 
-/// The pointer that is looked up: none where it leads to the root, and no name is written.
+/// The pointer that is looked up: none where it leads to the root, and values alone are written.
 pub(crate) fn pointers_of<'p>(
     alloc: Global,
     content: LineContent,
@@ -201,6 +236,8 @@ pub(crate) fn pointers_of<'p>(
     match content {
         LineContent::Alone => pointer_to_part(alloc, pointer),
         LineContent::Named => one_pointer(alloc, pointer),
+        LineContent::NameAlone => one_pointer(alloc, pointer),
+        LineContent::Empty => one_pointer(alloc, pointer),
     }
 }
 

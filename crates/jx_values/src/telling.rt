@@ -1,6 +1,7 @@
 // The report on a text, or of pointers for which nothing is written.
 ghost use Rattle.std.specs.Prelude.{◌≡◌, ◌<◌, ◌++◌, Some, false, codes, length, map, slice_get, string_bytes, IfOk, OnOk};
 ghost use Rattle.std.specs.Io.KnownBytes.{Appends};
+ghost use Rattle.jx_words.specs.Showing.{shown};
 ghost use Rattle.jx_words.specs.Words.{line, refusal_words};
 ghost use Rattle.jx_values.specs.Values.{exit_by, told_line, told_lines, told_of_value, value_written};
 
@@ -9,24 +10,24 @@ use crate::value::{bytes_at, is_written};
 use jx_ends::{Exit, Sink, write_whole};
 use jx_lex::Kind;
 use jx_run::Refusal;
-use jx_words::{PointerAnswer, add_answer, add_refusal};
+use jx_words::{PointerAnswer, add_answer, add_refusal, shown_name};
 use std::alloc::{AllocError, Global};
 
 /// The report on a text that is refused.
-pub(crate) fn told_of_refusal(alloc: Global, refusal: Refusal) -> Result<Vec<u8>, AllocError>
-    ensures { IfOk result (λ told. told.items ≡ codes "jx: " ++ line (refusal_words refusal)) }
+pub fn told_of_refusal(alloc: Global, refusal: Refusal) -> Result<Vec<u8>, AllocError>
+    ensures { IfOk result (λ told. told.items ≡ line (refusal_words refusal)) }
 {
-    let mut told = Vec::from_slice(alloc, b"jx: ")?;
+    let mut told = Vec::new(alloc);
     add_refusal(&mut told, refusal)?;
     Ok(told)
 }
 
-/// Appends `jx: `, the pointer, a colon and a space.
-fn add_front(told: &mut Vec<u8>, pointer: &str) -> Result<(), AllocError>
-    ensures { OnOk result (told.new.items ≡ told.old.items ++ (codes "jx: " ++ pointer.now ++ codes ": ")) }
+/// Appends the pointer as it is shown, a colon and a space.
+pub(crate) fn add_front(told: &mut Vec<u8>, pointer: &str) -> Result<(), AllocError>
+    ensures { OnOk result (told.new.items ≡ told.old.items ++ (shown pointer.now ++ codes ": ")) }
 {
-    told.extend_from_slice(b"jx: ")?;
-    told.extend_from_slice(pointer.as_bytes())?;
+    let name = shown_name(*told.allocator(), pointer)?;
+    told.extend_from_slice(&name)?;
     told.extend_from_slice(b": ")
 }
 
@@ -117,7 +118,7 @@ pub fn tell<E: Sink>(errors: &mut E, told: &[u8])
     }
 }
 
-/// Good where nothing is reported.
+/// The exit of a report: good where nothing is reported.
 pub fn exit_by(told: &[u8]) -> Exit
     ensures { result ≡ exit_by told.now }
 {

@@ -1,81 +1,73 @@
-// One pointer that is looked up in a text while it is read batch by batch, and the bytes that its value may have.
-ghost use Rattle.std.specs.Prelude.{◌≡◌, ◌++◌, ◌∷◌, [], ℕ, List, None, codes, length, map, string_bytes, IfOk, IfSome, OnOk};
+// Pointers that are looked up in a text while it is read batch by batch, and the bytes that their values may have.
+ghost use Rattle.std.specs.Prelude.{◌≡◌, ◌+◌, ◌<◌, ◌^◌, ◌++◌, [], ℕ, All, List, length, map, string_bytes, IfOk, OnOk};
 ghost use Rattle.jx_run.specs.declared.texts.settings.NameRule.TheVariants.{Any};
 ghost use Rattle.jx_run.specs.declared.texts.settings.Settings.{Settings};
-ghost use Rattle.jx_index.specs.Pointers.{IsPointer};
-ghost use Rattle.jx_task.specs.declared.values_task.ValuesTask.{ValuesTask};
+ghost use Rattle.jx_run.specs.declared.texts.verdict.Verdict.TheVariants.{Accepted};
+ghost use Rattle.jx_find.specs.Finder.{HasFed};
+ghost use Rattle.jx_index.specs.ByNames.{IsVerdictBy};
+ghost use Rattle.jx_words.specs.Answers.{AreAnswersBy, AreAnswersIn};
 ghost use Rattle.jx_words.specs.Words.{line, refusal_words};
-ghost use Rattle.jx_words.specs.inside.ReadPointers.{answer_in};
-ghost use Rattle.jx_values.specs.Values.{told_line};
-ghost use Rattle.jx_values.specs.inside.Kept.{IsHeldFor, IsKept, IsValueRead};
-ghost use Rattle.jx_values.specs.inside.Moved.{AreSame};
+ghost use Rattle.jx_words.specs.inside.ReadPointers.{AreReadPointers};
+ghost use Rattle.jx_values.specs.inside.Kept.{AreValuesRead, IsHeldFor, IsKeptOf};
 
 use crate::form::Form;
+use crate::gathered::gather;
+use crate::hints::{Spot, spots_of, wanted_at};
 use crate::kept::Kept;
 use crate::reply::{Held, Reply};
-use crate::sought::{first_of, one_pointer};
-use crate::telling::{add_told, told_of_refusal};
-use jx_find::Finder;
-use jx_index::{FindFault, Found, Met, rows_of_look_ups};
-use jx_lex::Span;
+use crate::telling::{told_of_answers, told_of_refusal};
+use jx_find::{Finder, Sought};
+use jx_index::{PointerFault, rows_of_look_ups};
 use jx_run::{Refusal, Settings};
-use jx_words::PointerAnswer;
+use jx_task::ValuesTask;
+use jx_words::{PointerAnswer, ReadPointers, answers_in, read_pointers};
 use std::alloc::{AllocError, Global};
 
-/// A look-up of one pointer in a text that is read from its start. It keeps the bytes of the value that the pointer leads to, and
-/// those of a token that has begun and may be it.
+/// A look-up of pointers in a text that is read from its start. It keeps the bytes of the values that the pointers lead to,
+/// for each by itself, and those of a token that has begun and may be one.
 #[derive(Drop)]
-pub struct ValueReader<'p> {
+pub struct ValuesReader<'p> {
     alloc: Global,
     finder: Finder<'p>,
-    kept: Kept,
+    /// Why some of the strings are no pointers.
+    unread: Vec<Option<PointerFault>>,
+    spots: Vec<Option<Spot>>,
+    kept: Vec<Kept>,
 }
 
-/// The span of the value, as far as it was fed, or of a token that has begun and may be it. It is empty where there is none.
-/// No clause says so: what is kept is looked at once more when the value is known.
-fn wanted_of(finder: &Finder<'_>) -> Span {
-    let end = finder.end();
-    let nothing = Span { start: end, end };
-    let Some(sought) = finder.sought() else {
-        return nothing;
-    };
-    match sought.state.met.last() {
-        Some(Met::Once(found)) if sought.state.opened.len() < sought.state.met.len() => found.span,
-        Some(Met::Once(found)) => Span {
-            start: found.span.start,
-            end,
-        },
-        Some(Met::Never) => match sought.begun {
-            Some(mark) => Span {
-                start: mark.at,
-                end,
-            },
-            None => nothing,
-        },
-        Some(Met::Again) | None => nothing,
-    }
-}
-
-/// The answer for what was found, with its span among the bytes that are kept; none where they lack it.
-fn answer_here(kept: &Kept, found: Result<Found, FindFault>) -> Option<PointerAnswer>
-    ensures { IfSome result (λ here. (text : List ℕ) → IsKept text kept.now.from kept.now.bytes.items
-        → AreSame text (answer_in None found) kept.now.bytes.items here) }
+/// So many times no bytes, of any text.
+fn none_kept(alloc: Global, count: usize) -> Result<Vec<Kept>, AllocError>
+    ensures { IfOk result (λ kept. All (IsKeptOf []) kept.items) }
 {
-    match found {
-        Ok(found) => match kept.span_here(found.span) {
-            Some(span) => Some(PointerAnswer::Found {
-                kind: found.kind,
-                span,
-            }),
-            None => None,
-        },
-        Err(fault) => Some(PointerAnswer::Lost(fault)),
+    let mut kept = Vec::with_capacity(alloc, count)?;
+    for _ in 0..count {
+        kept.push(Kept::new(alloc))?;
     }
+    Ok(kept)
+}
+
+/// Takes in for each spot what is wanted of a batch after so many bytes.
+fn keep_each(
+    kept: &mut Vec<Kept>,
+    spots: &[Option<Spot>],
+    sought: Option<&Sought>,
+    batch: &[u8],
+    base: usize,
+) -> Result<(), AllocError>
+    requires { base + length batch.now < 2 ^ 64 }
+    ensures { OnOk result ((text : List ℕ) → length text ≡ base → All (IsKeptOf text) kept.old.items → All (IsKeptOf (text ++ batch.now)) kept.new.items) }
+{
+    for number in 0..kept.len() {
+        let wanted = wanted_at(sought, spots, number, base + batch.len());
+        let one = &mut kept[number];
+        one.keep(batch, base, wanted)?;
+    }
+    Ok(())
 }
 
 /// The state kept of a text that is refused.
 fn held_of_refusal(alloc: Global, refusal: Refusal) -> Result<Held, AllocError>
-    ensures { IfOk result (λ held. (held.reply.answers.items ≡ []) × (held.reply.told.items ≡ codes "jx: " ++ line (refusal_words refusal))) }
+    ensures { IfOk result (λ held. (held.reply.answers.items ≡ []) × (held.reply.told.items ≡ line (refusal_words refusal))) }
 {
     let told = told_of_refusal(alloc, refusal)?;
     let answers = Vec::new(alloc);
@@ -85,91 +77,121 @@ fn held_of_refusal(alloc: Global, refusal: Refusal) -> Result<Held, AllocError>
     })
 }
 
-/// The state kept of a text with this answer, whose span is among the bytes that are kept.
-fn held_of_answer(
+/// The state kept of a text with these answers, for each of which some bytes are kept.
+fn held_of_answers(
     alloc: Global,
     form: Form,
-    pointer: &str,
-    kept: Kept,
-    answer: PointerAnswer,
+    task: &ValuesTask,
+    answers: &[PointerAnswer],
+    kept: Vec<Kept>,
 ) -> Result<Held, AllocError>
-    ensures { IfOk result (λ held. (held.text.items ≡ kept.bytes.items) × (held.reply.answers.items ≡ answer ∷ [])
-        × (held.reply.told.items ≡ told_line form kept.bytes.items pointer.now answer)) }
+    ensures { IfOk result (λ held. (text : List ℕ) → IsVerdictBy task.now.settings text Accepted → AreAnswersIn task.now.settings text (map string_bytes task.now.pointers.items) answers.now
+        → All (IsKeptOf text) kept.items → IsHeldFor form task.now text held) }
 {
-    let mut told = Vec::new(alloc);
-    add_told(&mut told, form, &kept.bytes, pointer, answer)?;
-    let mut answers = Vec::new(alloc);
-    answers.push(answer)?;
+    let gathered = gather(alloc, answers, kept)?;
+    if gathered.answers.len() != task.pointers.len() {
+        return Err(AllocError);
+    }
+    let told = told_of_answers(
+        alloc,
+        form,
+        &gathered.text,
+        &task.pointers,
+        &gathered.answers,
+    )?;
     Ok(Held {
-        text: kept.bytes,
-        reply: Reply { answers, told },
+        text: gathered.text,
+        reply: Reply {
+            answers: gathered.answers,
+            told,
+        },
     })
 }
 
-impl<'p> ValueReader<'p> {
+/// The answers of a finder that was fed a text, or why that is refused.
+fn answers_of(
+    alloc: Global,
+    finder: Finder<'_>,
+    unread: &[Option<PointerFault>],
+) -> Result<Result<Vec<PointerAnswer>, Refusal>, AllocError>
+    ensures { IfOk result (λ answers. (settings : Settings) (spelt pointers : List (List ℕ)) (text : List ℕ) → AreReadPointers spelt pointers unread.now
+        → HasFed settings pointers text finder.entry → AreAnswersBy settings text spelt answers) }
+{
+    rows_of_look_ups();
+    match finder.finish()? {
+        Err(refusal) => Ok(Err(refusal)),
+        Ok(found) => {
+            let answers = answers_in(alloc, unread, &found)?;
+            Ok(Ok(answers))
+        }
+    }
+}
+
+impl<'p> ValuesReader<'p> {
     /// Before the first byte.
     pub(crate) fn new(
         alloc: Global,
         settings: &Settings,
-        pointer: &'p str,
-    ) -> Result<ValueReader<'p>, AllocError>
-        requires any { settings.now.names ≡ Any }
-        requires pointer { IsPointer pointer.now }
-        ensures { IfOk result (IsValueRead settings.now pointer.now []) }
+        spelt: &'p [String],
+    ) -> Result<ValuesReader<'p>, AllocError>
+        requires { settings.now.names ≡ Any }
+        ensures { IfOk result (AreValuesRead settings.now (map string_bytes spelt.now) []) }
     {
-        let pointers = one_pointer(alloc, pointer)?;
+        let read = read_pointers(alloc, spelt)?;
+        let ReadPointers { pointers, unread } = read;
+        let spots = spots_of(alloc, &pointers, &unread)?;
         let finder = Finder::new(alloc, settings, pointers)?;
-        Ok(ValueReader {
+        let kept = none_kept(alloc, spelt.len())?;
+        Ok(ValuesReader {
             alloc,
             finder,
-            kept: Kept::new(alloc),
+            unread,
+            spots,
+            kept,
         })
     }
 
     /// How many bytes were read.
     pub(crate) fn end(&self) -> usize
-        ensures { (settings : Settings) (pointer text : List ℕ) → IsValueRead settings pointer text self.now → result ≡ length text }
+        ensures { (settings : Settings) (spelt : List (List ℕ)) (text : List ℕ) → AreValuesRead settings spelt text self.now → result ≡ length text }
     {
         self.finder.end()
     }
 
     /// Reads a batch after what was read. It is also out of memory where the last byte has no offset.
     pub(crate) fn read(&mut self, batch: &[u8]) -> Result<(), AllocError>
-        ensures { OnOk result ((settings : Settings) (pointer text : List ℕ) → IsValueRead settings pointer text self.old
-            → IsValueRead settings pointer (text ++ batch.now) self.new) }
+        ensures { OnOk result ((settings : Settings) (spelt : List (List ℕ)) (text : List ℕ) → AreValuesRead settings spelt text self.old
+            → AreValuesRead settings spelt (text ++ batch.now) self.new) }
     {
         let base = self.finder.end();
         if batch.len() > usize::MAX - base {
             return Err(AllocError);
         }
         self.finder.feed(batch)?;
-        let wanted = wanted_of(&self.finder);
-        self.kept.keep(batch, base, wanted)
+        keep_each(
+            &mut self.kept,
+            &self.spots,
+            self.finder.sought(),
+            batch,
+            base,
+        )
     }
 
-    /// The state kept of the text that was read, for the pointer.
-    pub(crate) fn into_held(self, form: Form, pointer: &str) -> Result<Held, AllocError>
-        requires { IsPointer pointer.now }
-        ensures { IfOk result (λ held. (task : ValuesTask) (text : List ℕ) → map string_bytes task.pointers.items ≡ pointer.now ∷ []
-            → IsValueRead task.settings pointer.now text self.entry → IsHeldFor form task text held) }
+    /// The state kept of the text that was read, for the pointers of a task.
+    pub(crate) fn into_held(self, form: Form, task: &ValuesTask) -> Result<Held, AllocError>
+        ensures { IfOk result (λ held. (text : List ℕ) → AreValuesRead task.now.settings (map string_bytes task.now.pointers.items) text self.entry
+            → IsHeldFor form task.now text held) }
     {
-        rows_of_look_ups();
-        let ValueReader {
+        let ValuesReader {
             alloc,
             finder,
+            unread,
+            spots: _,
             kept,
         } = self;
-        match finder.finish()? {
+        match answers_of(alloc, finder, &unread)? {
             Err(refusal) => held_of_refusal(alloc, refusal),
-            Ok(found) => {
-                let Some(found) = first_of(&found) else {
-                    return Err(AllocError);
-                };
-                let Some(answer) = answer_here(&kept, found) else {
-                    return Err(AllocError);
-                };
-                held_of_answer(alloc, form, pointer, kept, answer)
-            }
+            Ok(answers) => held_of_answers(alloc, form, task, &answers, kept),
         }
     }
 }

@@ -90,7 +90,7 @@ pub record Reading : Type 0 where
   pub part : Part
   pub held : List ℕ
 
--- what follows a byte, and the body that it ends, if it ends one
+-- the reading that follows a byte, and the body that it ends, if it ends one
 pub record Step : Type 0 where
   pub to : Reading
   pub ended : List (List ℕ)

@@ -1,5 +1,5 @@
--- What the body of a message calls for, by the values to which pointers (RFC 6901) lead in its tree: JSON-RPC 2.0, section 4, and the
--- Language Server Protocol 3.17.
+-- The call in the body of a message, by the values to which pointers (RFC 6901) lead in its tree: JSON-RPC 2.0, section 4, and the Language Server
+-- Protocol 3.17.
 use Rattle.std.specs.Prelude.{◌≡◌, ◌≢◌, ◌≤◌, ◌||◌, ℕ, ◌+◌, ◌-◌, List, [], ◌∷◌, ◌++◌, Bool, true, false, Option, None, Some, Vec, codes, decimal, drop, if◌then◌else◌, length}
 use Rattle.std.specs.Global.{Global}
 use Rattle.std.specs.Str.{bytes_eq}
@@ -94,7 +94,7 @@ has_lines (Some language) = is_of_lines language
 abbrev pub ends_in : List ℕ → List ℕ → Bool
 ends_in ending name = bytes_eq (drop (length name - length ending) name) ending
 
--- what a document is by its language, and by the ending of its name, whatever its language is
+-- the content of a document by its language, and by the ending of its name, for any language
 abbrev pub content_by : Option (List ℕ) → List ℕ → Content
 content_by language name = if has_lines language || ends_in (codes ".jsonl") name || ends_in (codes ".ndjson") name then content.Lines else content.Text
 
@@ -222,7 +222,7 @@ AsksForSelection at (call.Selection uri places) = IsSelection at uri places.item
 AsksForSelection at call.WrongParameters = (uri : Uri) (places : List Place) → IsSelection at uri places → ⊥
 AsksForSelection at _ = ⊥
 
--- what a request of a method calls for. No method of a notification can be answered
+-- the call of a request of a method. No method of a notification can be answered
 abbrev pub AsksFor : Values → Method → Call → Type 0
 AsksFor at method.Initialize asked = AsksToBegin at asked
 AsksFor at method.Shutdown asked = asked ≡ call.Shutdown
@@ -247,7 +247,7 @@ abbrev pub TellsClose : Values → Call → Type 0
 TellsClose at (call.Close uri) = IsUri at uri
 TellsClose at _ = ⊥
 
--- what a notification of a method calls for
+-- the call of a notification of a method
 abbrev pub TellsOf : Values → Method → Call → Type 0
 TellsOf at method.Exit told = told ≡ call.Exit
 TellsOf at method.Open told = TellsOpen at told

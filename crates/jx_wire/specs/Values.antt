@@ -13,7 +13,7 @@ use Rattle.jx_wire.specs.Messages.{wire_settings}
 use Rattle.jx_wire.specs.Numbers.{number_of}
 use Rattle.jx_wire.specs.declared.message.Value.{Value}
 
--- what a value is, and its bytes
+-- the kind of a value, and its bytes
 pub record ValueIn : Type 0 where
   pub kind : Kind
   pub bytes : List ℕ
@@ -33,7 +33,7 @@ value_in body (Err why) = None
 abbrev pub value_at : List ℕ → Tree → List ℕ → Option ValueIn
 value_at body tree pointer = value_in body (led body tree (tokens pointer))
 
--- what a look-up answers
+-- the answer of a look-up
 abbrev pub seen : Option Value → Option ValueIn
 seen None = None
 seen (Some value) = Some (record { kind = value.kind; bytes = value.bytes.now })

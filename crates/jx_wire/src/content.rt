@@ -1,4 +1,4 @@
-// What a document that is opened is to be: one text, or JSON Lines.
+// The content of a document that is opened: one text, or JSON Lines.
 ghost use Rattle.std.specs.Prelude.{◌≡◌, IfOk, IfSome, codes};
 ghost use Rattle.jx_wire.specs.Requests.{content_by, ends_in, has_lines, is_of_lines, items_in, text_in, HasContent};
 ghost use Rattle.jx_wire.specs.Values.{seen, Says};

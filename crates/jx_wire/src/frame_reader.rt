@@ -110,7 +110,7 @@ impl FrameReader {
         }
     }
 
-    /// Why the stream cannot be read on, if it cannot.
+    /// The fault for which the stream cannot be read on, if there is one.
     pub fn fault(&self) -> Option<FrameFault>
         ensures { result ≡ fault_of self.now }
     {

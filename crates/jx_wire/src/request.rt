@@ -238,10 +238,10 @@ fn call_of(
 /// The request in the body of a frame: a JSON text within a depth of 64 that repeats no name, and has a method.
 pub fn request_of(alloc: Global, body: &[u8]) -> Result<Request, RequestFault>
     ensures text { IfOk result (λ _. IsVerdictBy wire_settings body.now Accepted) }
-    // What the request is, by the values to which pointers lead in the body's tree.
+    // The request, by the values to which pointers lead in the body's tree.
     ensures says { IfOk result (λ request. Says body.now (λ at. IsRequest at request)) }
     ensures refused { IfErr result (IsFaultOf body.now) }
-    // What is refused is no request.
+    // A refused body is no request.
     ensures why { IfErr result (λ fault. Says body.now (λ at. IsRefusedFor at fault)) }
 {
     let message = match Message::read(alloc, body)? {

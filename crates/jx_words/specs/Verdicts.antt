@@ -18,7 +18,7 @@ abbrev pub ByVerdict : (List ℕ → Exit → Type 0) → Verdict → List ℕ �
 ByVerdict IsForText Accepted output exit = IsForText output exit
 ByVerdict IsForText (Refused refusal) output exit = SaysRefused refusal output exit
 
--- what is written of an output: nothing where a command is quiet
+-- the bytes that are written of an output: nothing where a command is quiet
 abbrev pub shown_output : Bool → List ℕ → List ℕ
 shown_output true output = []
 shown_output false output = output

@@ -1,4 +1,4 @@
--- What the contracts of the crates above cite, and no public promise.
+-- Definitions that the contracts of the crates above cite, and no public promise.
 pub mod Lines
 pub mod ReadPointers
 pub mod Room

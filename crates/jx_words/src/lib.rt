@@ -4,6 +4,7 @@
 
 mod pointer_answer;
 mod pointer_words;
+mod showing;
 mod told;
 mod verdict_words;
 mod words;
@@ -13,6 +14,7 @@ pub use pointer_answer::{
     read_pointers,
 };
 pub use pointer_words::push_pointer;
+pub use showing::{shown_name, write_shown};
 pub use told::{add_answer, add_number, add_refusal, add_span};
 pub use verdict_words::{exit_of_verdict, push_verdict, write_verdict};
 pub use words::{push_byte, push_bytes, push_kind, push_number, push_refusal, push_span};

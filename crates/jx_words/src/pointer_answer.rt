@@ -116,7 +116,7 @@ pub fn answer_at(answers: &[PointerAnswer], number: usize) -> PointerAnswer
     answers[number]
 }
 
-/// Good where each of the pointers is found.
+/// The exit for answers: good where each of the pointers is found.
 pub fn exit_of_answers(answers: &[PointerAnswer]) -> Exit
     ensures { result ≡ exit_past_lines Good answers.now }
 {

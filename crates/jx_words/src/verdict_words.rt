@@ -15,7 +15,7 @@ use std::alloc::Global;
 /// How many bytes the line of a verdict has at most.
 const VERDICT: usize = 38;
 
-/// Good where the text is accepted.
+/// The exit for a verdict: good where the text is accepted.
 pub fn exit_of_verdict(verdict: Verdict) -> Exit
     ensures { result ≡ verdict_exit verdict }
 {

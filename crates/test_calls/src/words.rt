@@ -1,4 +1,4 @@
-// What faults say of themselves.
+// The words of faults.
 use jx_claim::CutFault;
 use jx_index::{FindFault, PointerFault};
 use jx_lex::JoinFault;

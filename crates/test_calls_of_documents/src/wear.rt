@@ -17,7 +17,7 @@ fn next(seed: u64) -> u64 {
     x
 }
 
-/// What becomes of a document: so many times so many bytes are taken out, and others put in.
+/// The edits of a document: so many times so many bytes are taken out, and others put in.
 #[derive(Clone, Copy)]
 struct Wear {
     len: usize,

@@ -1,4 +1,4 @@
-// What arguments ask for.
+// The orders that arguments give.
 use jx_command::{ArgFault, Order, Request, ValuesOrder, command_of};
 use jx_task::Command;
 use std::alloc::{AllocError, Global};

@@ -1,4 +1,4 @@
-// What the examples give.
+// The answers of the examples.
 use crate::outcome::push_output;
 use jx_crew::Workers;
 use jx_index::Pointer;
@@ -12,7 +12,7 @@ use test_examples::{
 };
 use test_words::{Line, LineFault, Out, push_span, push_verdict};
 
-/// What an example gives, where memory is not refused.
+/// The answer of an example, where memory is not refused.
 fn given<T: Drop>(answer: Result<T, ExampleFault>) -> Result<T, AllocError> {
     answer.ok().ok_or(AllocError)
 }

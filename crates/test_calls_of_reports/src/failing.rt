@@ -1,4 +1,4 @@
-// What reports answer and write whose ends fail.
+// The answers and the output of reports whose ends fail.
 use crate::outcome::{Outcome, push_outcome};
 use crate::reader::Giving;
 use crate::reports::{Asked, Way, next_asked, outcome_by, ways_of, workers_of};

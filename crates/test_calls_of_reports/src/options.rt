@@ -6,7 +6,7 @@ use jx_run::Settings;
 use std::alloc::{AllocError, Global};
 use test_words::{LineFault, depth_of, number_of, settings_of};
 
-/// What a report is asked with. Lists are all gone through, each number beside each of the others.
+/// The options with which a report is asked. Lists are all gone through, each number beside each of the others.
 #[derive(Drop)]
 pub struct Options {
     pub settings: Settings,

@@ -20,7 +20,7 @@ impl Gate for Passing {
     }
 }
 
-/// What a report answered, what it wrote, and which of its ends has failed.
+/// The answer of a report, what it wrote, and which of its ends has failed.
 #[derive(Drop)]
 pub struct Outcome {
     pub answer: Result<Exit, ReportFault>,
@@ -70,7 +70,7 @@ pub fn outcome_of<R: Threads + Wait + Sync>(
 /// An output that is longer is written as its length.
 const LONG: usize = 32768;
 
-/// What was written, with `|` for a line feed, or `-` for nothing.
+/// Appends the output, with `|` for a line feed, or `-` for nothing.
 pub fn push_output(out: &mut Out, output: &[u8]) {
     match output.len() {
         0 => out.push_str("-"),

@@ -13,7 +13,7 @@ pub struct Giving {
     pub most: usize,
     /// The call that fails, counted from 1.
     pub fails_at: usize,
-    /// What it fails by.
+    /// The fault that it gives.
     pub kind: io::ErrorKind,
     /// How many zeros are given after the text.
     pub zeros: usize,

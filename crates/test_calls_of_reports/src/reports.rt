@@ -1,4 +1,4 @@
-// What reports answer and write.
+// The answers and the output of reports.
 use crate::options::{Options, options_of};
 use crate::outcome::{Outcome, outcome_of, push_outcome};
 use crate::reader::Giving;

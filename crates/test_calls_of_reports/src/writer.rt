@@ -5,7 +5,7 @@ use std::io;
 use std::io::Write;
 use test_words::{LineFault, number_of};
 
-/// What a writer does at the call at which it fails.
+/// The ways in which a writer fails at a call.
 #[derive(Clone, Copy, Debug, PartialEq, Eq)]
 pub enum Refusal {
     Error,

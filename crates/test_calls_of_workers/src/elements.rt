@@ -1,4 +1,4 @@
-// What is answered on elements, in words.
+// The answers on elements, in words.
 use jx_answer::{Element, ElementAnswer};
 use jx_run::{ElementVerdict, JudgedElement};
 use std::alloc::{AllocError, Global};

@@ -1,4 +1,4 @@
-// What a stopped worker holds, in words.
+// The things that a stopped worker has, in words.
 use jx_book::{Cause, Hand, WorkerStop};
 use jx_lex::Span;
 use jx_run::Summary;

@@ -1,4 +1,4 @@
-// What joins of held runs answer.
+// The answers of joins of runs that workers have.
 ghost use Rattle.std.specs.Prelude.{◌≤◌, length};
 
 use crate::copied::Copied;

@@ -1,4 +1,4 @@
-// What is answered to lists of pointers.
+// The answers to lists of pointers.
 use crate::cuttings::{Reading, cutting_at, readings, workers_of};
 use crate::found::{found_at, told_of};
 use crate::gates::StopOn;
@@ -85,7 +85,7 @@ fn add_index<R: Threads + Wait + Sync>(
     Ok(())
 }
 
-/// What each pointer leads to alone.
+/// The answer to each pointer alone.
 fn found_alone(alloc: Global, index: &Indexed, pointers: &[Pointer]) -> Result<Out, AllocError> {
     let mut answers = Vec::new(alloc);
     for pointer in pointers {
@@ -94,7 +94,7 @@ fn found_alone(alloc: Global, index: &Indexed, pointers: &[Pointer]) -> Result<O
     Ok(told_of(alloc, index, &answers))
 }
 
-/// What the pointers lead to, by so many workers.
+/// The answers to the pointers, by so many workers.
 fn found_by<R: Threads + Wait + Sync>(
     rt: &R,
     alloc: Global,

@@ -1,4 +1,4 @@
-// What puts into an accumulator are answered, and what is left in it.
+// The answers to puts into an accumulator, and what is left in it.
 ghost use Rattle.std.specs.Prelude.{◌≡◌, ◌<◌, IfOk};
 
 use crate::copied::Copied;
@@ -12,7 +12,7 @@ use std::sync::Wait;
 use std::sync::ledger::{Blank, Ledger};
 use test_words::{Line, LineFault, Out, Ways, push_span, span_within};
 
-/// What is put: the run of a part, or what the last put handed back, joined.
+/// The run that is put: of a part, or what the last put handed back, joined.
 #[derive(Clone, Copy)]
 enum Step {
     Read(Span),
@@ -37,13 +37,13 @@ fn next_steps(line: &mut Line<'_>, len: usize) -> Vec<Step> {
     line.read_or(steps, Vec::new(line.alloc))
 }
 
-/// What is put into an accumulator, and the answers then.
+/// The runs that are put into an accumulator, and the answers then.
 #[derive(Clone, Copy)]
 struct Asked<'a> {
     text: &'a [u8],
     depth: Depth,
     steps: &'a [Step],
-    /// What the accumulator is finished with.
+    /// The text with which the accumulator is finished.
     other: &'a [u8],
     other_depth: Depth,
     /// Whose gaps are listed.
@@ -148,7 +148,7 @@ fn push_put(out: &mut Out, put: &Put<'_, Copied>) {
     }
 }
 
-/// What the state of an accumulator answers.
+/// The answers of the state of an accumulator.
 fn put_on_state(alloc: Global, asked: &Asked<'_>) -> Result<Out, LineFault> {
     let mut out = Out::new(alloc);
     let mut state = BookState::new(alloc);
@@ -168,7 +168,7 @@ fn push_totals(out: &mut Out, put: u128, taken: u128) {
     out.put(format_args!("put {put}, taken {taken}; runs "));
 }
 
-/// What an accumulator that threads share answers, and the gaps of a part then, or that a run is of another text or depth.
+/// The answers of an accumulator that threads share, and the gaps of a part then, or that a run is of another text or depth.
 #[derive(Drop)]
 struct PutOnBook {
     put: Out,

@@ -1,4 +1,4 @@
-// What workers read together.
+// The texts that workers read together.
 ghost use Rattle.std.specs.Prelude.{◌≡◌, length, IfOk};
 
 use crate::copied::Copied;

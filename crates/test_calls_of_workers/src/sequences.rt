@@ -1,4 +1,4 @@
-// What is answered on text sequences.
+// The answers on text sequences.
 use crate::cuttings::{Reading, cutting_at, readings};
 use crate::elements::{told_of, told_of_answers};
 use jx_answer::{index_sequence, index_sequence_with, judge_sequence};

@@ -1,4 +1,4 @@
-// What is answered on texts.
+// The answers on texts.
 use crate::cuttings::{Reading, cutting_at, readings};
 use jx_answer::{TextAnswer, index_text, index_text_with, verdict_of_text};
 use jx_book::read_whole;
@@ -9,7 +9,7 @@ use std::sync::Wait;
 use std::thread::Threads;
 use test_words::{Line, LineFault, Out, Ways, push_rows, push_verdict};
 
-/// What texts are answered in several ways: verdicts in some, and rows in others.
+/// The answers to texts in several ways: verdicts in some, and rows in others.
 #[derive(Drop)]
 struct TextWays {
     alloc: Global,

@@ -17,7 +17,7 @@ use std::sync::ledger::{Blank, Ledger};
 use std::thread;
 use std::thread::Threads;
 
-/// What a worker begins with.
+/// The values with which a worker begins.
 #[derive(Drop)]
 struct Hands<P: Ledger, T: Ledger> {
     seat: ClaimSeat,

@@ -11,7 +11,8 @@ use std::alloc::Global;
 use std::sync::Wait;
 use std::thread::Threads;
 
-/// Whether bytes are a JSON text of at most 512 containers within one another, and if not, where they stop being one.
+/// The verdict on bytes: whether they are a JSON text of at most 512 containers within one another, and where they stop
+/// being one.
 pub fn check<R: Threads + Wait + Sync>(
     rt: &R,
     alloc: Global,

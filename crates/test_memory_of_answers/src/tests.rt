@@ -1,4 +1,4 @@
-// What crosses crates: cuts, depths, stops and refused growths, and the inputs and answers that are compared.
+// Tests that cross crates: cuts, depths, stops and failed allocations, and the inputs and answers that are compared.
 mod answers;
 mod calls;
 mod cuts;

@@ -1,4 +1,4 @@
-//! What arguments ask for, in words.
+//! Orders that arguments give, in words.
 #![tactic(auto)]
 
 mod orders;

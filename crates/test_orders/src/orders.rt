@@ -1,7 +1,8 @@
 // All that an order asks for, in one line.
 use jx_command::{
-    ByLine, EachOrder, Input, Inputs, LinesOrder, LiveOrder, Order, PartsOrder, PartsStep,
-    PassOrder, Request, SaveOrder, ShowProgress, SplitOrder, TellAccepted, Told, ValuesOrder,
+    ByLine, EachForm, EachOrder, Input, Inputs, LinesOrder, LiveOrder, Order, PartsOrder,
+    PartsStep, PassOrder, Request, SaveOrder, ShowProgress, SplitOrder, TableForm, TableOrder,
+    TellAccepted, Told, ValuesOrder,
 };
 use jx_crew::Workers;
 use jx_run::Settings;
@@ -79,13 +80,30 @@ fn push_workers(out: &mut Out, workers: Workers, piece: usize) {
     out.put(format_args!(", workers {count}, piece {piece}"));
 }
 
+/// The table whose rows are written, if there is one.
+fn push_table(out: &mut Out, table: Option<TableOrder>) {
+    let Some(table) = table else {
+        return;
+    };
+    match table.form {
+        TableForm::Tsv => push_file(out, ", tsv, null ", table.none),
+        TableForm::Csv => push_file(out, ", csv, null ", table.none),
+    }
+    if table.has_header {
+        out.push_str(", header");
+    }
+}
+
 /// How lines are answered, if they are.
 fn push_by_line(out: &mut Out, by_line: Option<ByLine>) {
-    match by_line {
-        None => (),
-        Some(by_line) if by_line.skips_blanks => out.push_str(", by line, skip blank"),
-        Some(_) => out.push_str(", by line"),
+    let Some(by_line) = by_line else {
+        return;
+    };
+    out.push_str(", by line");
+    if by_line.skips_blanks {
+        out.push_str(", skip blank");
     }
+    push_table(out, by_line.table);
 }
 
 fn push_values(out: &mut Out, order: &ValuesOrder) {
@@ -104,10 +122,15 @@ fn push_values(out: &mut Out, order: &ValuesOrder) {
 }
 
 fn push_each(out: &mut Out, order: &EachOrder) {
-    push_file(out, "each ", order.pointer);
+    let command = match order.form {
+        EachForm::Values | EachForm::Members => "each ",
+        EachForm::Names => "keys ",
+        EachForm::Count => "count ",
+    };
+    push_file(out, command, order.pointer);
     push_settings(out, &order.settings);
     push_workers(out, order.workers, order.piece);
-    if order.has_names {
+    if order.form == EachForm::Members {
         out.push_str(", names");
     }
     push_inputs(out, &Inputs::One(order.input));

@@ -1,4 +1,4 @@
-// What takes two threads at least.
+// Tests that take two threads at least.
 mod draws;
 mod meeting;
 mod pointers;

@@ -1,4 +1,4 @@
-// What answers are in words.
+// The words of answers.
 use crate::out::Out;
 use jx_index::Row;
 use jx_lex::{Kind, Span};

@@ -49,7 +49,7 @@ pub struct Line<'a> {
     pub alloc: Global,
     words: &'a [&'a str],
     fault: Option<LineFault>,
-    /// What is answered.
+    /// The answer so far.
     pub out: Out,
 }
 
@@ -88,7 +88,7 @@ impl<'a> Line<'a> {
         }
     }
 
-    /// What was made, or none where it failed, the fault of which is kept.
+    /// The value that was made, or none where it failed, the fault of which is kept.
     pub fn keep<T: Drop, E: Into<LineFault>>(&mut self, made: Result<T, E>) -> Option<T> {
         match made {
             Ok(made) => Some(made),
@@ -99,7 +99,7 @@ impl<'a> Line<'a> {
         }
     }
 
-    /// What was read, or this where nothing was, the fault of which is kept.
+    /// The value that was read, or this where nothing was, the fault of which is kept.
     pub fn read_or<T: Drop>(&mut self, read: Result<T, LineFault>, other: T) -> T {
         self.keep(read).unwrap_or(other)
     }
@@ -217,7 +217,7 @@ impl<'a> Line<'a> {
         }
     }
 
-    /// What is answered: that there is no such call where its words are not what it takes, or where some are left.
+    /// The answer: that there is no such call where its words are not what it takes, or where some are left.
     pub fn answer(mut self) -> Result<String, AllocError> {
         if !self.words.is_empty() {
             self.refuse();

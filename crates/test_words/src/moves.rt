@@ -115,7 +115,7 @@ fn add_by_table(
     Ok(())
 }
 
-/// What the table makes of the token starts, from each expectation and over each of these lists of containers that the depth allows.
+/// The moves of the table by the token starts, from each expectation and over each of these lists of containers that the depth allows.
 pub fn all_by_table(
     alloc: Global,
     marks: &[Mark],

@@ -1,4 +1,4 @@
-// What words name: settings, states, expectations and open containers.
+// The values that words name: settings, states, expectations and open containers.
 use crate::line::LineFault;
 use crate::moves::EXPECTS;
 use jx_lex::{Depth, LexState};

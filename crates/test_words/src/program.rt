@@ -1,9 +1,9 @@
-// What a program does with the lines of its input.
+// The answers of a program to the lines of its input.
 use crate::line::Line;
 use std::alloc::{AllocError, Global};
 use std::io;
 
-/// What a line is answered: one that is empty or begins with `#` by itself, and each other one by what `make` does with its words.
+/// The answer to a line: one that is empty or begins with `#` is answered by itself, and each other one by what `make` does with its words.
 fn answer_to<F: Fn(&mut Line<'_>)>(
     alloc: Global,
     line: &str,

@@ -4,12 +4,12 @@ ghost use Rattle.std.specs.Prelude.{◌<◌, IfSome};
 use crate::line::LineFault;
 use std::alloc::Global;
 
-/// What a word has next.
+/// The next part of a word.
 enum Piece {
     Byte(u8),
     /// The byte after it stands so many times.
     Times(usize),
-    /// What follows it up to the end of the part stands so many times.
+    /// The bytes after it up to the end of the part stand so many times.
     Open(usize),
     /// The end of such a part.
     Close,
@@ -34,7 +34,7 @@ fn count_of(rest: &[u8]) -> Option<(usize, &[u8])> {
     Some((count, after.as_bytes()))
 }
 
-/// What the rest of a word has next, and what follows that.
+/// The next part of the rest of a word, and what follows that.
 fn next_piece(rest: &[u8]) -> Option<(Piece, &[u8])> {
     let (byte, after) = rest.split_first()?;
     if *byte == b'\\' {
@@ -71,7 +71,7 @@ fn byte_piece(rest: &[u8]) -> Option<(Piece, &[u8])> {
     Some((Piece::Byte(byte), after))
 }
 
-/// What a word has written so far.
+/// The bytes that a word has written so far.
 #[derive(Drop)]
 struct Spelt {
     /// The bytes outside of an unended part.

@@ -5,7 +5,7 @@ use crate::out::Out;
 use std::alloc::{AllocError, Global};
 use std::fmt::Display;
 
-/// What a call answers that is made in several ways, and whether all ways answer the same.
+/// The answers of a call that is made in several ways, and whether all ways answer the same.
 #[derive(Drop)]
 pub struct Ways {
     alloc: Global,

@@ -20,7 +20,7 @@ pub record GivesUp (old new : ReaderValue) : Type 0 where
   pub start : new.start ≡ old.start
   pub failed : HasFailed new
 
--- what the worker of a front of these bytes leaves
+-- the state that the worker of a front of these bytes leaves
 abbrev pub Leaves : List ℕ → ReaderValue → FrontState → ReaderValue → Type 0
 Leaves bytes old Unread new = new ≡ old
 Leaves bytes old Done new = GoesOn bytes old new

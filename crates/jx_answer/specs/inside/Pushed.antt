@@ -38,7 +38,7 @@ pub record PushesFilled (input : List ℕ) (limit : ℕ) (p : Part) (old new : L
   pub new_is : new ≡ old ++ more
   pub each : AllZip (IsElement input limit) (filled (p ∷ [])) more
 
--- what a run over the whole input shows where that has record separators
+-- a run over the whole input shows this where that has record separators
 pub record IsShown (input : List ℕ) (before : TextRunValue) (done : List StartedValue) (after : TextRunValue) : Type 0 where
   pub start : before.map.start ≡ 0
   pub end : after.map.end ≡ length input

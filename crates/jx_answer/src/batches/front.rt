@@ -42,7 +42,7 @@ impl<'b, 'g, G> Drop for Front<'b, 'g, G> {
 }
 
 impl<'b, 'g, G> Front<'b, 'g, G> {
-    /// Of these bytes, which have the number of a chunk for the gate, and are not read yet.
+    /// A front of these bytes, which have the number of a chunk for the gate, and are not read yet.
     pub fn new(reader: Reader, bytes: &'b [u8], piece: PieceNo, gate: &'g G) -> Front<'b, 'g, G>
         ensures reader { result.reader ≡ reader }
         ensures bytes { result.bytes.now ≡ bytes.entry.now }

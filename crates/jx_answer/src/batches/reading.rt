@@ -26,7 +26,7 @@ const LEAST_STEP: usize = 4;
 const LEAST_SHARED: usize = 1024 * 1024;
 
 /// How much of a batch one worker reads from where the text stands, while the others make runs of the chunks after it.
-/// What a run costs depends on the text. So the front grows where chunks were left when it was read, and shrinks where
+/// The cost of a run depends on the text. So the front grows where chunks were left when it was read, and shrinks where
 /// none were.
 #[derive(Clone, Copy, Debug)]
 pub struct Balance {
@@ -36,7 +36,7 @@ pub struct Balance {
 }
 
 impl Balance {
-    /// Where nothing is known of the text: a run is taken to cost half as much again as a reading from where the text stands.
+    /// The balance where nothing is known of the text: a run is taken to cost half as much again as a reading from where the text stands.
     pub fn new(workers: Workers) -> Balance {
         Balance {
             shares: 3 * SHARES / (2 * workers.count() as usize + 1),

@@ -5,7 +5,7 @@ use Rattle.std.specs.Prelude.{ℕ, Bool, ◌||◌, ◌==◌}
 abbrev pub is_structural : ℕ → Bool
 is_structural byte = byte == 0x5b || byte == 0x5d || byte == 0x7b || byte == 0x7d || byte == 0x3a || byte == 0x2c
 
--- what mostly follows a number or a literal: a comma, a closing bracket, a space or a line's end
+-- a byte that mostly follows a number or a literal: a comma, a closing bracket, a space or a line's end
 abbrev pub is_stop : ℕ → Bool
 is_stop byte = byte == 0x2c || byte == 0x5d || byte == 0x7d || byte == 0x20 || byte == 0x0a || byte == 0x0d
 

@@ -22,7 +22,7 @@ pub struct Locked<'a, S: Summary, P: Ledger, T: Ledger> {
 }
 
 impl<'a, S: Summary, P: Ledger, T: Ledger> Locked<'a, S, P, T> {
-    /// No runs, and empty ledgers.
+    /// The state with no runs, and empty ledgers.
     pub fn new(alloc: Global, put: ledger::Book<P>, taken: ledger::Book<T>) -> Locked<'a, S, P, T>
         requires { (put.total ≡ 0) × (taken.total ≡ 0) }
     {

@@ -39,14 +39,14 @@ impl<P: Ledger, T: Ledger> Share<P, T> {
         }
     }
 
-    /// How many bytes it put.
+    /// The number of bytes that it put.
     pub fn total_put(&self) -> u128
         ensures { result ≡ self.now.put }
     {
         self.total_put
     }
 
-    /// How many bytes it took out.
+    /// The number of bytes that it took out.
     pub fn total_taken(&self) -> u128
         ensures { result ≡ self.now.taken }
     {

@@ -86,7 +86,7 @@ impl<'a, S: Summary> Held<'a, S> {
         self.text
     }
 
-    /// Where its bytes stand in the text.
+    /// The span of its bytes in the text.
     pub fn span(&self) -> Span
         ensures span { result ≡ self.now.span }
         ensures within { (result.start ≤ result.end) × (result.end ≤ length self.now.text) }

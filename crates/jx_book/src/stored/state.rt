@@ -53,7 +53,7 @@ impl<'a, S: Summary> Model for BookState<'a, S> {
 }
 
 impl<'a, S: Summary> BookState<'a, S> {
-    /// No runs, and nothing put or taken. It takes no memory.
+    /// The state with no runs, and nothing put or taken. It takes no memory.
     pub fn new(alloc: Global) -> BookState<'a, S>
         ensures runs { result.runs ≡ [] }
         ensures totals { (result.put ≡ 0) × (result.taken ≡ 0) }
@@ -86,14 +86,14 @@ impl<'a, S: Summary> BookState<'a, S> {
         runs
     }
 
-    /// How many bytes were put.
+    /// The number of bytes that were put.
     pub fn total_put(&self) -> u128
         ensures { result ≡ self.now.put }
     {
         self.put
     }
 
-    /// How many bytes were taken out.
+    /// The number of bytes that were taken out.
     pub fn total_taken(&self) -> u128
         ensures { result ≡ self.now.taken }
     {

@@ -122,7 +122,7 @@ pub extern "C" fn jx_document_verdict_non_null(
     }
 }
 
-/// How many bytes there are.
+/// Gives the number of bytes.
 #[unsafe(no_mangle)]
 pub extern "C" fn jx_document_size_non_null(
     alloc: Global,

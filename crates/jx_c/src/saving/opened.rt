@@ -373,7 +373,7 @@ impl OpenedIndex {
         OK
     }
 
-    /// Where the bytes stand that it needs next.
+    /// The span of the bytes that it needs next.
     pub fn needs(&self) -> Option<Span>
         ensures needed { result ≡ needed self.now }
         ensures some { IfSome result (λ span. span.start < span.end) }
@@ -455,14 +455,14 @@ impl OpenedIndex {
         }
     }
 
-    /// Where the chunk with the byte at an offset stands, if the text has one there.
+    /// The span of the chunk with the byte at an offset, if the text has one there.
     pub fn chunk_with(&self, at: usize) -> Option<Span>
         ensures { result ≡ chunk_with self.now.saved.index at }
     {
         chunk_at(&self.saved.index, at / self.saved.index.chunk.bytes())
     }
 
-    /// Whether bytes are those of the chunk with the byte at an offset, by their checksum.
+    /// Checks whether bytes are those of the chunk with the byte at an offset, by their checksum.
     pub fn check(&self, at: usize, bytes: &[u8]) -> u32
         ensures kept { (span : Span) → chunk_with self.now.saved.index at ≡ Some span → result ≡ OK → IsChunk self.now.saved.index span bytes.now }
         ensures changed { (span : Span) → chunk_with self.now.saved.index at ≡ Some span → result ≡ CHANGED → IsNoChunk self.now.saved.index span bytes.now }

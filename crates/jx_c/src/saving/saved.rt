@@ -131,7 +131,7 @@ fn shown_need(need: Option<Span>) -> JxSpan
     }
 }
 
-/// Where the bytes of the text stand that are to be given next; 0 and 0 where none are, or nothing goes on.
+/// Gives the span of the bytes of the text that are to be given next; 0 and 0 where none are, or nothing goes on.
 #[unsafe(no_mangle)]
 pub extern "C" fn jx_saved_needs_non_null(
     alloc: Global,
@@ -223,7 +223,7 @@ pub extern "C" fn jx_saved_parts_non_null(
     status
 }
 
-/// Where the chunk with the byte at an offset stands.
+/// Gives the span of the chunk with the byte at an offset.
 #[unsafe(no_mangle)]
 pub extern "C" fn jx_saved_chunk_non_null(
     alloc: Global,
@@ -251,7 +251,7 @@ pub extern "C" fn jx_saved_chunk_non_null(
     status
 }
 
-/// Whether bytes are those of the chunk with the byte at an offset, by their checksum.
+/// Checks whether bytes are those of the chunk with the byte at an offset, by their checksum.
 #[unsafe(no_mangle)]
 pub extern "C" fn jx_saved_check_non_null(
     alloc: Global,

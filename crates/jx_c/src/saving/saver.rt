@@ -58,7 +58,7 @@ impl Saver {
         }
     }
 
-    /// How many bytes the index has; none where the text has not ended.
+    /// The number of bytes that the index has; none where the text has not ended.
     pub fn size(&self) -> usize
         ensures { (index : Vec ℕ Global) → self.now ≡ Saved index → result ≡ length index.items }
     {

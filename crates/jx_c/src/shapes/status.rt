@@ -1,4 +1,4 @@
-// What a call answers to C.
+// The answers of a call to C.
 
 /// The call did what it is for.
 pub const OK: u32 = 0;
@@ -98,3 +98,6 @@ pub const NO_SHELF: u32 = 34;
 
 /// Another index stands on the shelf.
 pub const TAKEN: u32 = 35;
+
+/// The verdict does not refuse a text.
+pub const NOT_REFUSED: u32 = 36;

@@ -1,6 +1,8 @@
 // Verdicts as C sees them.
-ghost use Rattle.std.specs.Prelude.{◌≡◌};
-ghost use Rattle.jx_c.specs.Verdict.{shown};
+ghost use Rattle.std.specs.Prelude.{◌≡◌, Some};
+ghost use Rattle.jx_run.specs.declared.texts.verdict.Refusal.{Refusal};
+ghost use Rattle.jx_run.specs.declared.texts.verdict.Verdict.TheVariants.{Refused};
+ghost use Rattle.jx_c.specs.Verdict.{refusal_in, shown};
 
 use jx_run::{Refusal, Verdict};
 
@@ -49,5 +51,25 @@ pub fn shown(verdict: Verdict) -> JxVerdict
             offset: at,
             kind: REPEATED_NAME,
         },
+    }
+}
+
+/// The refusal that a verdict shows, if it is one of a text.
+#[tactic(auto, using(crate::proofs::Refusals::shown_back))]
+pub fn refusal_in(verdict: &JxVerdict) -> Option<Refusal>
+    ensures value { result ≡ refusal_in verdict.now }
+    ensures back { (refusal : Refusal) → verdict.now ≡ shown (Refused refusal) → result ≡ Some refusal }
+{
+    let at = verdict.offset;
+    if verdict.kind == STOPPED {
+        Some(Refusal::Stopped { at })
+    } else if verdict.kind == TRUNCATED && at == 0 {
+        Some(Refusal::Truncated)
+    } else if verdict.kind == TOO_DEEP {
+        Some(Refusal::TooDeep { at })
+    } else if verdict.kind == REPEATED_NAME {
+        Some(Refusal::RepeatedName { at })
+    } else {
+        None
     }
 }

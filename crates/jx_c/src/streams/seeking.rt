@@ -49,7 +49,7 @@ impl Seeking {
         Ok(Seeking { pointers, finder })
     }
 
-    /// How many bytes it was fed.
+    /// The number of bytes that it was fed.
     pub fn end(&self) -> usize
         ensures { result ≡ end_of self.now }
     {

@@ -207,7 +207,7 @@ impl ValueStream {
         Ok(ValueStream { each, sought })
     }
 
-    /// How many bytes it was fed.
+    /// The number of bytes that it was fed.
     pub fn end(&self) -> usize
         ensures { result ≡ end_of self.now }
     {
@@ -240,7 +240,7 @@ impl ValueStream {
         self.each.clear_ready();
     }
 
-    /// Where the pointer leads in all bytes that it was fed.
+    /// The answer to the pointer in all bytes that it was fed.
     pub fn outcome(self) -> Result<JxOutcome, AllocError>
         ensures { IfOk result (λ outcome. (settings : Settings) (pointer input given : List ℕ) → HasStreamed settings pointer input given self → IsOutcomeOf settings pointer input outcome) }
     {

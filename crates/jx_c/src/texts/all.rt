@@ -1,4 +1,4 @@
-// What many pointers lead to in one text, which is read once for all of them.
+// The answers to many pointers in one text, which is read once for all of them.
 ghost use Rattle.std.specs.Prelude.{◌≡◌, ◌⊎◌, ◌<◌, ◌≤◌, ℕ, List, IfErr, IfOk, Some, length, slice_get};
 ghost use Rattle.std.specs.List.{AllZip};
 ghost use Rattle.jx_run.specs.declared.texts.settings.Settings.{Settings};

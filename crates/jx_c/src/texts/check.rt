@@ -33,8 +33,9 @@ pub fn verdict_by(alloc: Global, text: &[u8], settings: &Settings) -> Result<Ver
     }
 }
 
-/// Whether the bytes are a JSON text (RFC 8259) by settings, and if not, where they stop being one. A byte order mark may be
-/// ignored (section 8.1), and names may have to be unique (section 4). It takes memory only where they have to be.
+/// Gives the verdict on bytes by settings: whether they are a JSON text (RFC 8259), and the place of the refusal if they are
+/// not one. A byte order mark may be ignored (section 8.1), and names may have to be unique (section 4). It takes memory only
+/// where they have to be.
 #[unsafe(no_mangle)]
 pub extern "C" fn jx_check_non_null(
     alloc: Global,

@@ -1,4 +1,4 @@
-// What a pointer leads to in a text.
+// The answer to a pointer in a text.
 ghost use Rattle.std.specs.Prelude.{◌≡◌, ◌⊎◌, ◌<◌, ◌≤◌, ℕ, List, Some, IfOk, IfErr, length, slice_get};
 ghost use Rattle.jx_run.specs.Tree.{Tree};
 ghost use Rattle.jx_run.specs.declared.texts.settings.Settings.{Settings};

@@ -1,4 +1,4 @@
-// What a handle of a shelf leads to: the shelf, which other handles lead to as well, and what was learned by this one.
+// The parts of a handle of a shelf: the shelf, which other handles lead to as well, and what was learned by this one.
 ghost use Rattle.std.specs.Prelude.{◌≡◌, None, Some, IfErr, IfNone, IfOk, IfSome, true, false};
 ghost use Rattle.jx_index.specs.Indexed.{IndexedValue};
 ghost use Rattle.jx_c.specs.Indexes.{IsAnswerIn, row_at};

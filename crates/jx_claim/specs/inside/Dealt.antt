@@ -12,7 +12,7 @@ use Rattle.jx_claim.specs.Undrawn.{undrawn, Draws}
 abbrev pub view : ℕ → List ℕ → ℕ → View
 view seats got nones = record { seats = seats; got = got; nones = nones }
 
--- what two views together stand for
+-- the view that two views together stand for
 abbrev pub both : View → View → View
 both v w = view (v.seats + w.seats) (v.got ++ w.got) (v.nones + w.nones)
 

@@ -39,7 +39,7 @@ pub record HasReadOn (has_names : Bool) (settings : Settings) (chunk : ℕ) (unr
   pub read : Consumes unread left text
   pub of : IsSavingOf has_names settings chunk text saving
 
--- what is saved of a text
+-- the saved parts of a text
 pub record IsSaved (has_names : Bool) (settings : Settings) (chunk : ℕ) (text : List ℕ) (saved : SavedText) : Type 0 where
   pub accepted : IsVerdictBy settings text Accepted
   pub index : IsIndexOf settings chunk text saved.index

@@ -24,7 +24,7 @@ pub record BeganLine (known : Option (List ℕ)) (index : Index) (form : Form) (
   pub words_are : OfEachText known index (λ text file. words ≡ told_line form text pointer answer)
   pub wrote : AppendsBeginning old new line
 
--- what is to be reported of it was added
+-- the report that is due of it was added
 abbrev pub AddsTold : Option (List ℕ) → Index → Form → List ℕ → PointerAnswer → List ℕ → List ℕ → Type 0
 AddsTold known index form pointer answer old new = OfEachText known index (λ text file. new ≡ old ++ told_line form text pointer answer)
 

@@ -11,7 +11,7 @@ abbrev pub placed : Bool → Place
 placed true = Inside
 placed false = Between
 
--- what holds of byte k, where bit k of a word says it of the byte after it
+-- the bit of byte k, where bit k of a word is that of the byte after it
 abbrev pub in_at : Bool → ℕ → ℕ → Bool
 in_at first word zero = first
 in_at first word (suc k) = bit word k

@@ -4,7 +4,7 @@ use Rattle.jx_run.specs.declared.texts.verdict.Verdict.{Verdict}
 use Rattle.jx_run.specs.declared.texts.verdict.Verdict.TheVariants.{Accepted, Refused}
 use Rattle.jx_run.specs.declared.texts.verdict.Refusal.TheVariants.{Stopped, Truncated, TooDeep, RepeatedName}
 use Rattle.jx_each.specs.declared.stand.Stage.{Stage}
-use Rattle.jx_each.specs.declared.stand.Stage.TheVariants.{Ahead, Elements, Members, Array, Object, Name, Pair, Over}
+use Rattle.jx_each.specs.declared.stand.Stage.TheVariants.{Ahead, Elements, Members, Array, Object, Name, Pair, Names, Empties, Over}
 use Rattle.jx_each.specs.declared.stand.LineStand.{LineStand}
 use Rattle.jx_each.specs.declared.each.Each.TheInside.{Inside}
 use Rattle.jx_each.specs.inside.Paths.{count_in}
@@ -35,6 +35,8 @@ has_begun Array = true
 has_begun Object = true
 has_begun Name = true
 has_begun Pair = true
+has_begun Names = true
+has_begun Empties = true
 has_begun Over = true
 
 abbrev pub IsLawful : Inside → Type 0

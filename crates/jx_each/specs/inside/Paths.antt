@@ -1,7 +1,7 @@
 -- The tokens of a pointer as they are kept.
 use Rattle.std.specs.Prelude.{ℕ, List, map}
 use Rattle.jx_each.specs.declared.stand.Stage.{Stage}
-use Rattle.jx_each.specs.declared.stand.Stage.TheVariants.{Ahead, Elements, Members, Array, Object, Name, Pair, Over}
+use Rattle.jx_each.specs.declared.stand.Stage.TheVariants.{Ahead, Elements, Members, Array, Object, Name, Pair, Names, Empties, Over}
 use Rattle.jx_each.specs.declared.target.Target.{Target}
 use Rattle.jx_each.specs.declared.token.Token.{Token}
 use Rattle.jx_each.specs.Machine.{Aim}
@@ -24,4 +24,6 @@ count_in Array = 0
 count_in Object = 0
 count_in Name = 0
 count_in Pair = 0
+count_in Names = 0
+count_in Empties = 0
 count_in Over = 0

@@ -26,11 +26,11 @@ pub record IsPassed (place : Place) (w : List ℕ) : Type 0 where
   pub runs : (aim : Aim) (height : ℕ) (stage : Stage) (takes : Bool) (lines part : List ℕ)
       → run aim (spot place height stage takes lines part) w ≡ spot place height stage takes lines part
 
--- what stays of them is copied after what was kept, and they lead from one place and height to another
+-- the bytes that stay of them are copied after what was kept, and they lead from one place and height to another
 pub record IsCopied (takes : Bool) (place : Place) (height : ℕ) (w part : List ℕ) (to : Place) (high : ℕ) (longer : List ℕ) : Type 0 where
   pub runs : (aim : Aim) (stage : Stage) (lines : List ℕ) → run aim (spot place height stage takes lines part) w ≡ spot to high stage takes lines longer
 
--- what waits to be copied, where elements are kept at all
+-- the bytes that wait to be copied, where elements are kept at all
 abbrev pub waiting : Bool → List ℕ → Walk → List ℕ
 waiting takes xs walk = if takes then slice_range xs walk.start walk.end else []
 

@@ -17,7 +17,7 @@ skipped (seen.Refused refusal) = 0
 abbrev pub with_front : Front → List ℕ → List ℕ
 with_front front rest = take (skipped front) byte_order_mark ++ rest
 
--- what a document keeps
+-- the invariant of a document
 pub record IsFronted (settings : Settings) (front : Front) (rest : ChunkedValue) : Type 0 where
   pub depth : rest.depth ≡ settings.depth
   pub names : settings.names ≡ Any

@@ -29,7 +29,7 @@ bytes_at [] k = []
 bytes_at (c ∷ cs) zero = c.bytes
 bytes_at (c ∷ cs) (suc k) = bytes_at cs k
 
--- what a text in chunks keeps
+-- the invariant of a text in chunks
 pub record IsKept (depth len : ℕ) (chunks : List ChunkValue) (sums : List Sum) : Type 0 where
   pub linked : AreLinked depth origin chunks
   pub summed : AreSums chunks sums
@@ -42,7 +42,7 @@ pub record IsWalked (limit start count : ℕ) (chunks : List ChunkValue) : Type 
   pub on : AreLinkedFrom chunks 0 count
   pub reads : read_text limit start (text_of (take count chunks)) ≡ came_to (place_behind origin (take count chunks))
 
--- what became of the reading with so many chunks
+-- the step to which reading so many chunks led
 abbrev pub IsReached : ℕ → ℕ → ℕ → List ChunkValue → TheStep → Type 0
 IsReached limit start count chunks step.On = IsWalked limit start count chunks
 IsReached limit start count chunks (step.Stopped at) = read_text limit start (text_of (take count chunks)) ≡ stopped at

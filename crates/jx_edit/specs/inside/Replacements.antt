@@ -1,4 +1,4 @@
--- What an edit puts into a text.
+-- The bytes that an edit puts into a text.
 use Rattle.std.specs.Prelude.{◌++◌, ℕ, List}
 use Rattle.jx_edit.specs.declared.chunking.replacement.Replacement.{Replacement}
 

@@ -1,4 +1,4 @@
--- What is kept of chunks that stand together, 64 in a group.
+-- Sums of chunks that stand together, 64 in a group.
 use Rattle.std.specs.Prelude.{◌≡◌, ◌≤◌, ◌<◌, ◌+◌, ◌*◌, ℕ, zero, suc, Bool, true, List, [], ◌∷◌, IfSome, length, get_or, take, drop}
 use Rattle.jx_edit.specs.inside.Chunks.{ChunkValue, text_of}
 use Rattle.jx_edit.specs.inside.Moves.{AreMoves}

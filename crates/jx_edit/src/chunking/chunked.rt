@@ -34,7 +34,7 @@ pub(crate) struct Chunked {
     depth: Depth,
     len: usize,
     chunks: Vec<Chunk>,
-    // what is kept of each group of chunks
+    // the sum of each group of chunks
     sums: Vec<Sum>,
     // by which encoding chunks and sums count
     counted: Option<Encoding>,

@@ -8,7 +8,7 @@ use std::marker::Model;
 /// The bytes of a document, chunk by chunk.
 #[derive(Drop)]
 pub struct Chunks<'a> {
-    // what is left of a byte order mark that is in none of the chunks
+    // the rest of a byte order mark that is in none of the chunks
     front: &'a [u8],
     rest: &'a [Chunk],
 }

@@ -1,4 +1,4 @@
-// What an edit makes of chunks.
+// The chunks that an edit makes of others.
 ghost use Rattle.std.specs.Prelude.{◌≡◌, ◌≤◌, ◌<◌, ◌-◌, ◌^◌, ◌++◌, IfOk, OnOk, OnErr, length};
 ghost use Rattle.jx_edit.specs.inside.Chunks.{loosened, replaced, text_of, AreFresh, IsMade};
 ghost use Rattle.jx_edit.specs.inside.Replacements.{all_of};

@@ -1,4 +1,4 @@
-// What an edit puts into a text.
+// The bytes that an edit puts into a text.
 ghost use Rattle.std.specs.Prelude.{◌≡◌, ◌-◌, ◌^◌, IfOk, drop, length, min};
 ghost use Rattle.jx_edit.specs.inside.Replacements.{all_of};
 ghost use Rattle.jx_run.specs.Front.{front_of};

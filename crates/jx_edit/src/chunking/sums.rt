@@ -1,4 +1,4 @@
-// What is kept of chunks that stand together, so that they need not be looked at one by one.
+// Sums of chunks that stand together, so that they need not be looked at one by one.
 ghost use Rattle.std.specs.Prelude.{◌≡◌, ◌≤◌, ◌<◌, ◌+◌, ◌*◌, ◌^◌, IfOk, IfSome, length, min};
 ghost use Rattle.jx_edit.specs.inside.Chunks.{text_of};
 ghost use Rattle.jx_edit.specs.inside.Moves.{AreMoves};

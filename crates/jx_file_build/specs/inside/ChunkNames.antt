@@ -1,4 +1,4 @@
--- What is gathered of the names of a chunk.
+-- The names that are gathered of a chunk.
 use Rattle.std.specs.Prelude.{◌≡◌, ℕ, ◌<◌, List, ◌++◌, length, drop, map, Option, Some, true}
 use Rattle.jx_lex.specs.declared.alphabet.mark.Mark.{Mark}
 use Rattle.jx_reduce.specs.KnownStack.{Known}
@@ -10,7 +10,7 @@ use Rattle.jx_file_index.specs.NameHash.{name_hash}
 use Rattle.jx_file_index.specs.Names.{NamesOf, is_behind_name}
 use Rattle.jx_file_build.specs.declared.standing.ToldChunk.{ToldChunk}
 
--- what stands open before a chunk, how many bytes stand there, and the bytes of the chunk
+-- the containers and the name that are open before a chunk, how many bytes stand there, and the bytes of the chunk
 pub record Start : Type 0 where
   pub stack : Known
   pub begun : Option Mark
@@ -29,7 +29,7 @@ pub record IsGatheredOf (before : List ℕ) (start : Start) (marks : List Mark) 
   pub hashes_are : hashes ≡ map name_hash names
   pub name_is : (m : Mark) → begun ≡ Some m → is_behind_name stack.reading ≡ true → m.at < length before → name ≡ drop m.at before
 
--- whatever the bytes before the chunk are, these token starts and ends of it were taken
+-- after any bytes before the chunk, these token starts and ends of it were taken
 pub record HasGathered (start : Start) (marks : List Mark) (ends : List ℕ) (own : List ℕ) (base : ℕ) (stack : Known) (sum : Sum) (begun : Option Mark) (name hashes : List ℕ) : Type 0 where
   pub chunk_is : own ≡ start.chunk
   pub base_is : base ≡ start.base

@@ -1,4 +1,4 @@
--- What is kept of the names of chunks, in blocks of 64.
+-- The names of chunks as they are kept, in blocks of 64.
 use Rattle.std.specs.Prelude.{◌≡◌, ℕ, ◌-◌, ◌/◌, ◌<◌, ◌^◌, List, length, not, slice_get, All, Contains, Some, true, false}
 use Rattle.std.specs.List.{AllByRecursion}
 use Rattle.jx_file_index.specs.Chunks.{IsCount}

@@ -1,4 +1,4 @@
--- What a known stack and a sink beside it have seen of the tokens of a chunk.
+-- The tokens of a chunk that a known stack and a sink beside it have seen.
 use Rattle.std.specs.Prelude.{◌≡◌, ℕ, List, Bool}
 use Rattle.jx_lex.specs.declared.alphabet.mark.Mark.{Mark}
 use Rattle.jx_lex.specs.Seen.{Grows, Seen}

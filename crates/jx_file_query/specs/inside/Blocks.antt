@@ -32,7 +32,7 @@ pub record IsBlockOf (settings : Settings) (chunk : ℕ) (text : List ℕ) (inde
   pub levels : AreLevels level (drop b.start index.entries.items) index.top
   pub tells : IsLevel settings (b.chunks * chunk) text level
 
--- whatever the text
+-- for any text
 pub record IsBlockAt (index : Index) (at : ℕ) (b : Block) : Type 0 where
   pub some : 1 ≤ b.chunks
   pub of : (settings : Settings) (chunk : ℕ) (text : List ℕ) → IsKnown settings chunk text index → IsBlockOf settings chunk text index at b

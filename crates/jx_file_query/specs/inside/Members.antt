@@ -55,7 +55,7 @@ pub record IsCut (skipped : ℕ) (e : Entry) : Type 0 where
   pub begun : in_token e.state ≡ true
   pub name : e.expect ≡ Colon
 
--- what is kept stands in the object before a chunk, where no name was cut, and no wanted value waits
+-- the state that is kept stands in the object before a chunk, where no name was cut, and no wanted value waits
 pub record IsStarted (held : Sought) (e : Entry) : Type 0 where
   pub agrees : in_token e.state ≡ is_some held.begun
   pub named : held.state.name ≡ unwanted_name held.state.skipped (in_token e.state) e.expect
@@ -86,7 +86,7 @@ pub record IsCounted (here behind : Entry) (count skipped later deeper : ℕ) : 
 abbrev pub IsLed : (settings : Settings) (size : ℕ) (text : List ℕ) → List Edge → (names : TextNames) → AreTablesOf settings size text names.tables.now → Sought → Cursor → ℕ → Among → Type 0
 IsLed settings size text edges names t held c n among = IsLedTo settings size text edges held c (begun_at t.named n) n among.count among.skipped
 
--- what is kept of the chunks before a place leads to this before another
+-- the state that is kept of the chunks before a place leads to this before another
 abbrev pub LeadsTo : Index → TextNames → List Edge → Sought → ℕ → Cursor → ℕ → Among → Type 0
 LeadsTo index names edges held at c n among = (settings : Settings) (chunk : ℕ) (text : List ℕ) → IsKnown settings chunk text index → (t : AreTablesOf settings chunk text names.tables.now) → HaveHashes edges names.hashes.items
     → IsHeldAt settings chunk text edges at held → IsLed settings chunk text edges names t held c n among
@@ -100,7 +100,7 @@ abbrev pub LeadsOn : Index → TextNames → List Edge → Sought → Cursor →
 LeadsOn index names edges held c n one other = (settings : Settings) (chunk : ℕ) (text : List ℕ) → IsKnown settings chunk text index → (t : AreTablesOf settings chunk text names.tables.now) → HaveHashes edges names.hashes.items
     → IsLed settings chunk text edges names t held c n one → IsLed settings chunk text edges names t held c (suc n) other
 
--- what is kept in the object after the last of them
+-- the state that is kept in the object after the last of them
 pub record IsHeldAmong (held : Sought) (among : Among) (entry : Entry) (next : Sought) : Type 0 where
   pub found : (c : Cursor) (outer : List Cursor) → (finding held.state).opened ≡ c ∷ outer
       → finding next.state ≡ found_among held.state.met.items c outer among.count among.skipped (unwanted_name among.skipped (in_token entry.state) entry.expect)

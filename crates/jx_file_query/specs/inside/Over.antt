@@ -39,12 +39,12 @@ recounted (Some count) (c ∷ outer) = record c { count = count } ∷ outer
 abbrev pub finding_over : Over → Finding → Finding
 finding_over over f = record { met = f.met; opened = recounted over.count f.opened; skipped = over.skipped; name = f.name }
 
--- what is kept so of the bytes, the part among them
+-- the state that is kept so of the bytes, the part among them
 abbrev pub LeadsOver : List ℕ → List ℕ → List Edge → List Mark → List ℕ → Sought → Entry → Over → Type 0
 LeadsOver bytes piece edges marks ends held here over = (s : State) (name : List ℕ) → finding s ≡ finding_over over (finding held.state)
     → IsHeld (bytes ++ piece) edges (marks ++ (lex here.state (length bytes) piece).marks) (ends ++ (lex here.state (length bytes) piece).ends) s over.next over.begun name
 
--- whatever the bytes and the part
+-- for any bytes and part
 abbrev pub IsOver : Sought → List Edge → Entry → Entry → Over → Type 0
 IsOver held edges here behind over = (limit : ℕ) (bytes piece : List ℕ) (marks : List Mark) (ends : List ℕ) → IsHeld bytes edges marks ends held.state held.next held.begun held.name.items
     → IsPiece limit bytes piece marks here behind → LeadsOver bytes piece edges marks ends held here over

@@ -1,4 +1,4 @@
--- What is written and told for one word.
+-- The output and the messages for one word.
 use Rattle.std.specs.Prelude.{◌≡◌, ℕ, List, [], Option, Bool, false, ⊤}
 use Rattle.std.specs.Io.KnownBytes.{Appends}
 use Rattle.jx_task.specs.declared.command.Command.{Command}

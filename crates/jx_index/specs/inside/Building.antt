@@ -22,7 +22,7 @@ pub record Building : Type 0 where
 abbrev pub nothing_built : Building
 nothing_built = record { rows = []; after = []; opened = []; name = None }
 
--- what a next child of the innermost open container has
+-- the parent of a next child of the innermost open container
 abbrev pub parent_in : List Opened → Option ℕ
 parent_in [] = None
 parent_in (top ∷ outer) = Some top.row

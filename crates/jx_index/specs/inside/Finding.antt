@@ -68,8 +68,8 @@ shut end level all = change (met_ended end) level all
 
 -- ---- the state
 
--- what was met after so many tokens; the open containers to which tokens lead, innermost first; how many are open below
--- them to which none leads; and of a name whose value is still to come, where that leads
+-- the tokens that were met after so many; the open containers to which tokens lead, innermost first; how many are open
+-- below them to which none leads; and of a name whose value is still to come, where that leads
 pub record Finding : Type 0 where
   pub met : List Met
   pub opened : List Cursor
@@ -168,7 +168,7 @@ abbrev pub met_in : Option Met → Met
 met_in None = met.Again
 met_in (Some m) = m
 
--- what was met after so many tokens
+-- the tokens that were met after so many
 abbrev pub met_at : List Met → ℕ → Met
 met_at all level = met_in (slice_get all level)
 

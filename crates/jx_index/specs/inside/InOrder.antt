@@ -17,7 +17,7 @@ IsToken begun = (m : Mark) → begun ≡ Some m → is_token m.kind ≡ true
 abbrev pub Comes : List Mark → List ℕ → Building → Option Mark → Type 0
 Comes marks ends b begun = (last : ℕ) (more : List Mark) (others : List ℕ) → make last (marks ++ more) (ends ++ others) nothing_built ≡ make last (behind begun more) others b
 
--- what holds the building to which these token starts and ends come
+-- the building to which these token starts and ends lead has this property
 pub record SeenAs (Holds : Building → Type 0) (marks : List Mark) (ends : List ℕ) (begun : Option Mark) : Type 0 where
   pub building : Building
   pub fits : Fits building

@@ -38,7 +38,7 @@ with_container is_object h =
       name = None;
     }
 
--- what is repeated in a container that ends, whose names are those after so many
+-- the name that is repeated in a container that ends, whose names are those after so many
 pub record EndsIn (old : Held) (top : Holder) (outer : List Holder) (new : Held) : Type 0 where
   pub repeated : Option ℕ
   pub in_object : top.is_object ≡ true → IsLeast (IsRepeatedName old.text (drop top.before old.names)) repeated

@@ -1,5 +1,5 @@
 -- The ways of pointers in a trie, and what was met along them.
-use Rattle.std.specs.Prelude.{◌≡◌, ℕ, suc, List, length, map, Result, Ok}
+use Rattle.std.specs.Prelude.{◌≡◌, ℕ, suc, List, length, map, Ok}
 use Rattle.jx_index.specs.declared.finder.Found.{Found}
 use Rattle.jx_index.specs.declared.finder.Met.{Met}
 use Rattle.jx_index.specs.declared.pointer_ways.Way.{Way}
@@ -15,6 +15,6 @@ IsWayOf edges pointer way = IsTrie edges → (path : List ℕ) → IsWay edges 0
 abbrev pub nodes_of : Way → List ℕ
 nodes_of way = way.nodes.items
 
--- what was met last on a way along which as many tokens lead as nodes follow its first one
+-- the value that was met last on a way along which as many tokens lead as nodes follow its first one
 abbrev pub IsFoundAlong : List Met → List ℕ → Found → Type 0
 IsFoundAlong met way found = (ts : List (List ℕ)) → length way ≡ suc (length ts) → Ok found ≡ read_root (met_at (map (met_at met) way) 0) (map (met_at met) way) ts

@@ -12,7 +12,7 @@ use Rattle.jx_index.specs.inside.Trie.{IsNextIn, IsTrie, IsWay}
 abbrev pub IsReady : List Edge → Seeker → Type 0
 IsReady edges k = IsNextIn edges (reverse k.state.opened.items) k.next
 
--- what a pointer's tokens lead to, by what was met along their way
+-- the answer to a pointer, by the tokens that were met along its way
 abbrev pub IsReadOf : List Edge → List Met → List ℕ → Result Found FindFault → Type 0
 IsReadOf edges met pointer found = IsTrie edges → (path : List ℕ) → IsWay edges 0 (tokens pointer) path
     → found ≡ read_root (met_at (map (met_at met) path) 0) (map (met_at met) path) (tokens pointer)

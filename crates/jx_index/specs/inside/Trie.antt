@@ -79,7 +79,7 @@ pub record IsFirstFrom (edges : List Edge) (key : List ℕ) (at : ℕ) : Type 0 
   pub below : (j : ℕ) (e : Edge) → j < at → slice_get edges j ≡ Some e → is_lt (slice_cmp nat_cmp (edge_key e) key) ≡ true
   pub others : (j : ℕ) (e : Edge) → at ≤ j → slice_get edges j ≡ Some e → is_lt (slice_cmp nat_cmp (edge_key e) key) ≡ false
 
--- what an edge is looked for by, as edges are ordered
+-- the key by which an edge is looked for, as edges are ordered
 abbrev pub sought_key : Key → List ℕ
 sought_key k = k.node ∷ k.place ∷ chars_units k.spelling 0 k.bytes.now
 
@@ -189,7 +189,7 @@ abbrev pub ShowsName : List ℕ → ℕ → Option (Option ℕ) → Option (Opti
 ShowsName path zero all one = one ≡ name_on path all
 ShowsName path (suc below) all one = (one ≡ None) × (level_of path (behind_name all) ≡ None)
 
--- what is noted for all, as a path shows it, where so many containers are open below the path
+-- the notes for all, as a path shows them, where so many containers are open below the path
 pub record Shows (path : List ℕ) (below : ℕ) (all one : Finding) : Type 0 where
   pub met : one.met ≡ map (met_at all.met) path
   pub opened : Opens path all.opened one.opened below

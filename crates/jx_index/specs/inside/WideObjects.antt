@@ -13,7 +13,7 @@ AreFronts text rows members fronts = fronts ≡ map (front_at text rows) members
 abbrev pub AreFrontsBehind : List ℕ → List Row → List ℕ → List ℕ → List ℕ → Type 0
 AreFrontsBehind text rows before now fronts = (members : List ℕ) → now ≡ before ++ members → AreFronts text rows members fronts
 
--- what is kept of an object is added, if anything is
+-- the record that is kept of an object is added, if there is one
 pub record IsWidened (text : List ℕ) (rows : List Row) (object : ℕ) (members : List ℕ) (before now : List WideObject) : Type 0 where
   pub added : List WideObject
   pub is : now ≡ before ++ added
@@ -24,7 +24,7 @@ pub record IsWide (text : List ℕ) (rows : List Row) (starts children : List �
   pub below : w.object < n
   pub fronts_are : AreFronts text rows (child_list starts children w.object) w.fronts.items
 
--- what is kept of an object stands among these
+-- the record that is kept of an object stands among these
 pub record AreFrontsThere (wide : List WideObject) (object : ℕ) (fronts : List ℕ) : Type 0 where
   pub place : ℕ
   pub kept : WideObject

@@ -75,7 +75,7 @@ pub enum LexState {
 }
 
 impl LexState {
-    /// All states in order.
+    /// The states, all of them, in order.
     pub fn all() -> [LexState; 32]
         ensures { result ≡ all_states }
     {
@@ -115,7 +115,7 @@ impl LexState {
         ]
     }
 
-    /// Its number among all of them, counted from 0.
+    /// The number of the state among all of them, counted from 0.
     #[inline(always)]
     pub fn number(self) -> usize
         ensures ordinal { result ≡ ordinal self }

@@ -25,7 +25,7 @@ pub struct Ahead {
 }
 
 impl Ahead {
-    /// No tested part yet.
+    /// The value with no tested part yet.
     #[inline(always)]
     pub fn nothing() -> Ahead
         ensures sound { (text : List ℕ) → IsSound text result }

@@ -119,7 +119,8 @@ fn escaped_len(block: u8x64) -> usize
     let digits = four_behind(units);
     let wrong_plain = not_plain(block) & !(backslashes | escaped);
     let wrong_letter = escaped & !(short_escapes(block) | units);
-    // What a backslash escapes is looked at once more, bit by bit, so that all that follows rests on this alone.
+    // The bytes that a backslash escapes are checked once more, bit by bit, so that all that follows rests on this
+    // alone.
     let wrong_escaped = (escaped >> 1) ^ (backslashes & !escaped);
     let wrong = wrong_plain | wrong_letter | wrong_escaped | not_hex(block, digits);
     last_boundary(escaped | digits, wrong)

@@ -33,7 +33,7 @@ impl Model for Tokens {
 }
 
 impl Tokens {
-    /// No token start and no end yet. Nothing is allocated.
+    /// The lists with no token start and no end yet. Nothing is allocated.
     pub fn new(alloc: Global) -> Tokens
         ensures { result ≡ record { marks = []; ends = [] } }
     {
@@ -43,7 +43,7 @@ impl Tokens {
         }
     }
 
-    /// These token starts and ends.
+    /// The lists of these token starts and ends.
     pub fn of(marks: Vec<Mark>, ends: Vec<usize>) -> Tokens
         ensures { result ≡ record { marks = marks.items; ends = ends.items } }
     {

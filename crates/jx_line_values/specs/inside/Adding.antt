@@ -1,5 +1,5 @@
 -- The messages on the pointers of a line by what was found.
-use Rattle.std.specs.Prelude.{◌≡◌, ℕ, zero, suc, List, [], ◌∷◌, ◌++◌, Result, map}
+use Rattle.std.specs.Prelude.{◌≡◌, ℕ, zero, suc, List, [], ◌∷◌, ◌++◌, ◌==◌, Bool, false, if◌then◌else◌, Result, map, not}
 use Rattle.jx_run.specs.declared.texts.settings.FrontMark.{FrontMark}
 use Rattle.jx_run.specs.declared.texts.settings.NameRule.TheVariants.{Any}
 use Rattle.jx_run.specs.declared.texts.settings.Settings.{Settings}
@@ -9,27 +9,29 @@ use Rattle.jx_ends.specs.declared.exit.Exit.{Exit}
 use Rattle.jx_ends.specs.declared.exit.Exit.TheVariants.{Bad}
 use Rattle.jx_ndjson.specs.Lines.{Line}
 use Rattle.jx_line_values.specs.declared.task.LineValuesTask.{LineValuesTask}
-use Rattle.jx_line_values.specs.LineValues.{IsGivenBy, LineGiven, tabbed, told_of_found, value_bytes}
+use Rattle.jx_line_values.specs.declared.row_form.RowForm.{RowForm}
+use Rattle.jx_line_values.specs.Cells.{separator}
+use Rattle.jx_line_values.specs.LineValues.{IsGivenBy, LineGiven, joined, told_of_found, value_bytes}
 
 -- of each, in order
-abbrev pub told_of_all : ℕ → List (List ℕ) → List (Result Found FindFault) → List ℕ
-told_of_all number [] found = []
-told_of_all number (pointer ∷ pointers) [] = []
-told_of_all number (pointer ∷ pointers) (one ∷ found) = told_of_found number pointer one ++ told_of_all number pointers found
+abbrev pub told_of_all : RowForm → ℕ → List ℕ → List (List ℕ) → List (Result Found FindFault) → List ℕ
+told_of_all form number bytes [] found = []
+told_of_all form number bytes (pointer ∷ pointers) [] = []
+told_of_all form number bytes (pointer ∷ pointers) (one ∷ found) = told_of_found form number bytes pointer one ++ told_of_all form number bytes pointers found
 
--- a tab in front of each value but the first
-abbrev pub tab_before : ℕ → List ℕ
-tab_before zero = []
-tab_before (suc place) = 0x09 ∷ []
+-- a separator in front of each value but the first
+abbrev pub between_before : RowForm → ℕ → List ℕ
+between_before form zero = []
+between_before form (suc place) = separator form ∷ []
 
 -- bad where something is reported now, else the status that there was before
 abbrev pub exit_past : Exit → List ℕ → Exit
 exit_past exit [] = exit
 exit_past exit (byte ∷ told) = Bad
 
--- what is written by what was found
-abbrev pub written_of : List ℕ → List (Result Found FindFault) → List ℕ
-written_of bytes found = tabbed (map (value_bytes bytes) found) ++ 10 ∷ []
+-- the bytes that are written by the answers that were found
+abbrev pub written_of : LineValuesTask → List ℕ → List (Result Found FindFault) → List ℕ
+written_of task bytes found = joined (separator task.form) (map (value_bytes task bytes) found) ++ 10 ∷ []
 
 -- the settings for a line that this may stand in front of
 abbrev pub settings_with : LineValuesTask → FrontMark → Settings
@@ -41,3 +43,10 @@ pub record IsAdded (task : LineValuesTask) (mark : FrontMark) (l : Line) (ready 
   pub is_given : IsGivenBy (settings_with task mark) task l given
   pub written : longer ≡ ready ++ given.written
   pub telling : retold ≡ told ++ given.told
+
+-- a byte of a text that stands for itself between tabs
+abbrev pub is_escaped_as_itself : ℕ → Bool
+is_escaped_as_itself byte =
+    if byte == 0x09 then false else
+    if byte == 0x0a then false else
+    if byte == 0x0d then false else not (byte == 0x5c)

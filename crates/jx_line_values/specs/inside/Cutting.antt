@@ -1,4 +1,4 @@
--- What a contract sees of the values of lines that come slice by slice, and what was taken.
+-- Values of lines that come slice by slice, as a contract sees them, and the bytes that were taken.
 use Rattle.std.specs.Prelude.{◌≡◌, ℕ, List, [], ◌∷◌, ◌++◌, drop, length, if◌then◌else◌, ◌==◌}
 use Rattle.std.specs.List.{AllZip}
 use Rattle.jx_run.specs.declared.texts.settings.FrontMark.{FrontMark}
@@ -37,7 +37,7 @@ bare_first mark (p ∷ ps) = bare mark p ∷ ps
 abbrev pub line_bytes : FrontMark → ℕ → List ℕ → List ℕ
 line_bytes mark ended kept = if ended == 0 then bare_bytes mark kept else kept
 
--- what may stand in front of it then
+-- the rule on a byte order mark in front of it then
 abbrev pub line_mark : FrontMark → ℕ → List ℕ → FrontMark
 line_mark mark ended kept = if ended == 0 then (if mark_length mark kept == 0 then mark else Refused) else Refused
 

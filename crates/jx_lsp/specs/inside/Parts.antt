@@ -1,4 +1,4 @@
--- What became of a part of a stream.
+-- The end of reading a part of a stream.
 use Rattle.std.specs.Prelude.{◌≡◌, ℕ, List, [], ◌++◌, false, true, Option, None, Some}
 use Rattle.std.specs.Io.KnownBytes.{Consumes}
 use Rattle.jx_wire.specs.Frames.{bodies, fault_of, read_on, start as in_front, Reading}

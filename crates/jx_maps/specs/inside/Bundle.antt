@@ -24,7 +24,7 @@ is_live live s = get_or live (ordinal s) false
 abbrev pub live_count : List Bool → ℕ
 live_count live = count_by (is_live live) all_states
 
--- what stands in a state stands in a live one
+-- a link that stands in a state stands in a live one
 abbrev pub LiveAt : List Bool → Link → Type 0
 LiveAt live (State s) = is_live live s ≡ true
 LiveAt live (Ahead k) = Unit {0}

@@ -39,7 +39,7 @@ opening s = record { marks = []; ends = []; next = State s }
 abbrev pub meeting_heads : LexState → List Link
 meeting_heads s = set (map State all_states) (ordinal s) (Ahead 0)
 
--- what stands in the state goes on in one segment
+-- the segments that stand in the state go on in one segment
 abbrev pub met : LexState → List SegmentValue → List SegmentValue
 met s ps = linked_segments (meeting_heads s) ps ++ opening s ∷ []
 

@@ -85,7 +85,7 @@ abbrev pub cut_back : List ℕ → List Name → Option Name → List ℕ
 cut_back bytes names None = take (end_from 0 names) bytes
 cut_back bytes names (Some name) = bytes
 
--- what is repeated in a container that ends, whose names are those after so many
+-- the name that is repeated in a container that ends, whose names are those after so many
 pub record EndsIn (old : Kept) (top : Container) (outer : List Container) (new : Kept) : Type 0 where
   pub repeated : Option ℕ
   pub in_object : top.is_object ≡ true → IsLeast (IsRepeatedKept old.bytes (drop top.before old.names)) repeated
@@ -137,14 +137,14 @@ IsKeptToo text bytes low (Some s) None = ⊥
 abbrev pub holder : Container → Holder
 holder c = record { is_object = c.is_object; before = c.before }
 
--- what is held of a text by spans is kept by bytes
+-- the names that are kept of a text by spans are kept by bytes
 pub record IsKept (text : List ℕ) (h : Held) (k : Kept) : Type 0 where
   pub opened : h.opened ≡ map holder k.opened
   pub names : AreKept text k.bytes 0 h.names k.names
   pub name : IsKeptToo text k.bytes (end_from 0 k.names) h.name k.name
   pub first : h.first ≡ k.first
 
--- what is kept of a text from which this is built
+-- the names that are kept of a text from which this is built
 pub record Stands (text : List ℕ) (b : Building) (k : Kept) : Type 0 where
   pub held : Held
   pub holds : IsHeldOf text b held

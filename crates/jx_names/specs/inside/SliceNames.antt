@@ -1,4 +1,4 @@
--- What is kept of the names of a slice.
+-- The names that are kept of a slice.
 use Rattle.std.specs.Prelude.{◌≡◌, ℕ, ◌<◌, List, ◌++◌, Option, Some, drop, length, true}
 use Rattle.jx_lex.specs.declared.alphabet.mark.Mark.{Mark}
 use Rattle.jx_run.specs.Telling.{moved_ends, moved_marks}
@@ -19,7 +19,7 @@ pub record IsToldOf (before slice : List ℕ) (marks : List Mark) (ends : List �
   pub token : IsToken begun
   pub name_is : (m : Mark) → begun ≡ Some m → is_name_next m.kind (kept names) ≡ true → m.at < length before → name ≡ drop m.at before
 
--- whatever the state at the slice's start, these token starts and ends of the slice were taken after it
+-- after any state at the slice's start, these token starts and ends of the slice were taken
 pub record HasTold (held : Holds) (slice : List ℕ) (marks : List Mark) (ends : List ℕ) (own : List ℕ) (base : ℕ) (names : OpenNames) (begun : Option Mark) (name : List ℕ) : Type 0 where
   pub slice_is : own ≡ slice
   pub base_is : (before : List ℕ) (ms : List Mark) (es : List ℕ) → held before ms es → base ≡ length before

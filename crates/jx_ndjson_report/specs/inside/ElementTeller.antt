@@ -14,7 +14,7 @@ pub record ElementTellerValue : Type 0 where
   pub elements : ElementReaderValue
   -- the exit by those that ended
   pub exit : Exit
-  -- what waits to be written
+  -- the bytes that wait to be written
   pub ready : List ℕ
 
 -- it has taken these bytes of an input, from its start, and told this of them before what waits
@@ -24,6 +24,6 @@ pub record HasTaken (task : ElementsTask) (bytes given : List ℕ) (t : ElementT
   pub ends : t.exit ≡ exit_past_judged Good answers
   pub written : given ++ t.ready ≡ lines_of task answers
 
--- what is written for one element
+-- the bytes that are written for one element
 abbrev pub one_line : ElementsTask → JudgedElement → List ℕ
 one_line task element = shown_output task.is_quiet (element_line task.front.items element)

@@ -24,12 +24,12 @@ pub record HasPassed (task : LinesTask) (bytes given said : List ℕ) (p : LineP
   pub count_is : length p.kept ≡ p.teller.lines.reader.count
   pub passes : (more : List ℕ) → given ++ p.ready ≡ passed_lines (bytes ++ more) taken.answers
 
--- what passes of a line that ended, if one did
+-- the bytes that pass of a line that ended, if one did
 abbrev pub passed_bytes : Option JudgedLine → List ℕ → List ℕ
 passed_bytes None bytes = []
 passed_bytes (Some j) bytes = if is_good j.verdict then bytes else []
 
--- what is kept of a line, so many bytes of which were read
+-- the bytes that are kept of a line, so many bytes of which were read
 abbrev pub kept_of : ℕ → List ℕ → List ℕ
 kept_of zero bytes = []
 kept_of (suc count) bytes = bytes

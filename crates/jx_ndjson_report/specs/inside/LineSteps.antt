@@ -7,7 +7,7 @@ use Rattle.jx_words.specs.Verdicts.{shown_output}
 use Rattle.jx_ndjson_report.specs.declared.task.LinesTask.{LinesTask}
 use Rattle.jx_ndjson_report.specs.Output.{is_bad, told_line}
 
--- what is written for one line
+-- the bytes that are written for one line
 abbrev pub bad_line : LinesTask → JudgedLine → List ℕ
 bad_line task j = shown_output task.is_quiet (if is_bad task.blanks j.verdict then told_line task.form task.front.items j else [])
 

@@ -11,7 +11,7 @@ pub record LineTellerValue : Type 0 where
   -- how many of those that ended are good, and how many bad
   pub good : ℕ
   pub bad : ℕ
-  -- what waits to be written
+  -- the bytes that wait to be written
   pub ready : List ℕ
 
 -- it has taken these bytes of an input, from its start, and told this of them before what waits

@@ -24,7 +24,7 @@ abbrev pub reported : BlankRule → LineCounts → ℕ
 reported Refused counts = counts.refused + counts.blank
 reported Passed counts = counts.refused
 
--- what is written of lines
+-- the bytes that are written of lines
 abbrev pub Telling : Type 0
 Telling = List JudgedLine → List ℕ
 
@@ -43,7 +43,7 @@ pub record IsTold (settings : Settings) (told : Telling) (rule : PartRule) (know
   pub read : HasRead settings told rule text output t
   pub wrote : Appends written grown output
 
--- what a fault leaves
+-- the output that a fault leaves
 abbrev pub AfterFault : {E : Type 0} → LinesTask → Option (List ℕ) → (E → Type 0) → Option (List ℕ) → Option (List ℕ) → ReportAtFault E → Type 0
 AfterFault task known may_fail written grown Memory = WroteLines task known written grown
 AfterFault task known may_fail written grown (Read reason) = may_fail reason × WroteLines task known written grown

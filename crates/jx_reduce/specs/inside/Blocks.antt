@@ -8,7 +8,8 @@ use Rattle.jx_reduce.specs.declared.table.expect.Expect.TheVariants.{Value, Arra
 use Rattle.jx_reduce.specs.declared.table.holder.Holder.{Holder}
 use Rattle.jx_reduce.specs.declared.table.holder.Holder.TheVariants.{Array, Object}
 
--- what may stand next, by three bits: a value, a name, and whether it is the first of its container; neither of both and the third: a colon
+-- the tokens that may stand next, by three bits: a value, a name, and whether it is the first of its container; neither of both and the third: a
+-- colon
 abbrev pub expect_at : Bool → Bool → Bool → Expect
 expect_at true n true = ArrayFirst
 expect_at true n false = Value
@@ -40,7 +41,7 @@ pub record Turns (kinds : TokenKinds) (starts : ℕ) (object value name first : 
   pub name_next : name (suc k) ≡ ((is_set kinds.open_objects k || (is_set kinds.commas k && object k)) || (name k && not (is_set starts k)))
   pub first_next : first (suc k) ≡ (((is_set kinds.open_arrays k || is_set kinds.open_objects k) || (is_set kinds.strings k && not (value k))) || (first k && not (is_set starts k)))
 
--- what byte k does to the open containers; where it is no bracket, a bit says which one is the innermost
+-- the change that byte k makes to the open containers; where it is no bracket, a bit says which one is the innermost
 pub data Steps (kinds : TokenKinds) (object : ℕ → Bool) (most k : ℕ) (old new : List Holder) : Type 0 where
   along : is_set kinds.open_arrays k ≡ false → is_set kinds.close_arrays k ≡ false → is_set kinds.open_objects k ≡ false → is_set kinds.close_objects k ≡ false
       → top old ≡ container (object k) → new ≡ old → Steps kinds object most k old new

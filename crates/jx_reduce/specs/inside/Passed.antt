@@ -19,7 +19,7 @@ pub record Reads (depth : ℕ) (text : List ℕ) (from to : ℕ) (old new : Read
   pub exit : (lex Gap from (slice_range text from to)).exit ≡ reading.state Gap
   pub read : new ≡ read depth (lex Gap from (slice_range text from to)).marks old
 
--- what may stand where a turn ends
+-- the tokens that may stand where a turn ends
 abbrev pub expect_of : Turn → Expect
 expect_of (On e) = e
 expect_of (Stop e) = e

@@ -71,8 +71,8 @@ pub record MayFollow (f : StructureValue) (ms : List Mark) : Type 0 where
   pub left : AreIn (λ p. p < between) f
   pub right : RisingFrom between ms
 
--- what follows the head, where these tokens were read after it: the first is kept, and leads to where the others are
--- read
+-- the rest that follows the head, where these tokens were read after it: the first is kept, and leads to where the
+-- others are read
 abbrev pub IsBegun : ℕ → List Mark → Option Rest → Type 0
 IsBegun d [] r = r ≡ None
 IsBegun d (m ∷ ms) None = ⊥

@@ -10,7 +10,7 @@ use Rattle.jx_lex.specs.Seen.{Awaits, Seen, SeesTrack}
 abbrev pub leaves_by : ℕ → MarkKind
 leaves_by byte = if byte == 0x2c then Comma else if byte == 0x5d then CloseArray else CloseObject
 
--- what looks on has seen the token starts and ends of the bytes
+-- an observer has seen the token starts and ends of the bytes
 abbrev pub Sees : Seen → Seen → List ℕ → ℕ → ℕ → Type 0
 Sees old new text from to = SeesTrack old new (lex Gap from (slice_range text from to))
 

@@ -39,7 +39,7 @@ impl Entry {
         Entry::AfterOrColon,
     ];
 
-    /// Its place among all of them, counted from 0.
+    /// The place of the entry among all of them, counted from 0.
     pub fn index(self) -> usize
         ensures place { result ≡ place self }
         ensures low { result < 8 }

@@ -33,7 +33,7 @@ impl<'a> Model for EntryView<'a> {
 }
 
 impl<'a> EntryView<'a> {
-    /// How many containers may stand open at once.
+    /// The number of containers that may stand open at once.
     pub fn depth(&self) -> Depth
         ensures { result ≡ self.now.structure.depth }
     {

@@ -509,7 +509,7 @@ impl Structure {
         self.alloc
     }
 
-    /// How many containers may stand open at once.
+    /// The number of containers that may stand open at once.
     pub fn depth(&self) -> Depth
         ensures { result ≡ self.now.depth }
     {
@@ -637,7 +637,7 @@ impl Structure {
         }
     }
 
-    /// Its parts, borrowed.
+    /// The parts of the structure, borrowed.
     pub fn parts(&self) -> StructureRef<'_>
         ensures parts { borrowed_structure self.now.depth result ≡ self.now }
         ensures sound { IsSound self.now }

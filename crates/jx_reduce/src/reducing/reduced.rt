@@ -117,14 +117,14 @@ impl Reduced {
         *self.levels.opens.allocator()
     }
 
-    /// How many containers may stand open at once.
+    /// The number of containers that may stand open at once.
     pub fn depth(&self) -> Depth
         ensures { result ≡ depth_of self.now }
     {
         self.depth
     }
 
-    /// How many levels there are.
+    /// The number of levels.
     pub fn level_count(&self) -> usize
         ensures count { result ≡ length (levels_of (form_in self.now)) }
         ensures within { result ≤ depth_of self.now + 1 }

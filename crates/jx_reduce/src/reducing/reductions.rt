@@ -83,7 +83,7 @@ impl Reductions {
         Ok(Reductions { depth, forms })
     }
 
-    /// How many containers may stand open at once.
+    /// The number of containers that may stand open at once.
     pub fn depth(&self) -> Depth
         ensures { result ≡ self.now.depth }
     {

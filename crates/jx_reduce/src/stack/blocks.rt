@@ -12,7 +12,7 @@ use crate::stack::next_words::next_behind;
 use crate::stack::watch::Watch;
 use crate::stack::whole_tokens::{rounds, takes_value};
 use crate::table::expect::Expect;
-use jx_block::{TokenKinds, counts_of, read_tokens};
+use jx_block::{TokenKinds, read_tokens};
 use std::simd::prelude::*;
 
 /// How many bytes a block has.
@@ -27,9 +27,6 @@ const CLOSE_COMMAS: u32 = 8;
 
 /// How many commas must stand in half as many bytes, so that a list of numbers is read by blocks.
 const LIST_COMMAS: u32 = 5;
-
-/// How many bytes are read token by token, before a block is tried again.
-const STRETCH: usize = 16384;
 
 /// The result of reading a block.
 #[derive(Clone, Copy)]
@@ -95,7 +92,7 @@ fn block<H: Containers, W: Watch>(
         return None;
     }
     let masks = read_tokens(text, at)?;
-    let counts = counts_of(&masks.kinds);
+    let counts = watch.counts(&masks.kinds);
     if !watch.takes_counts(&counts) {
         return None;
     }
@@ -207,17 +204,13 @@ fn blocks_where_close<H: Containers, W: Watch>(
     blocks(text, from, to, expect, holders, most, watch)
 }
 
-/// The end of the bytes that are read token by token.
+/// The end of the bytes that are read token by token, at most so many.
 #[inline(always)]
-fn stretch_end(from: usize, to: usize) -> usize
+fn stretch_end(from: usize, to: usize, most: usize) -> usize
     requires { from ≤ to }
     ensures { (from ≤ result) × (result ≤ to) }
 {
-    if to - from > STRETCH {
-        from + STRETCH
-    } else {
-        to
-    }
+    if to - from > most { from + most } else { to }
 }
 
 /// Reads whole tokens from a place where a value stands next: by blocks where tokens stand close together, and
@@ -249,7 +242,7 @@ pub(crate) fn stretches<H: Containers, W: Watch>(
         if !takes_value(next) {
             return (begin, next);
         }
-        let end = stretch_end(begin, to);
+        let end = stretch_end(begin, to, watch.stretch());
         let (behind, next) = rounds(text, begin, end, next, holders, most, watch);
         // Before the end, a list of numbers stopped the reading: blocks go on in it, where it has small ones.
         let listed = is_list(text, at, behind);

@@ -8,8 +8,7 @@ ghost use Rattle.jx_reduce.specs.declared.table.holder.Holder.{Holder};
 ghost use Rattle.jx_reduce.specs.inside.Blocks.{container, Steps, Walks};
 
 use crate::stack::containers::Innermost;
-use crate::stack::next_words::is_bit;
-use jx_block::TokenKinds;
+use jx_block::{TokenKinds, is_bit, with_behind};
 
 /// How many containers a word holds.
 const WORD: usize = 64;
@@ -87,17 +86,6 @@ fn bracket(kinds: &TokenKinds, k: usize, inner: Innermost, room: usize) -> Optio
         return opened(inner, is_bit(kinds.open_objects, k), room);
     }
     closed(inner, is_bit(kinds.close_objects, k))
-}
-
-/// The word with the bits after byte k all set, or none of them.
-#[inline(always)]
-fn with_behind(word: u64, k: usize, set: bool) -> u64
-    requires { k < 64 }
-    ensures before { (j : ℕ) → j ≤ k → bit result j ≡ bit word j }
-    ensures behind { (j : ℕ) → k < j → j < 64 → bit result j ≡ set }
-{
-    let up_to = u64::MAX >> (63 - k);
-    if set { word | !up_to } else { word & up_to }
 }
 
 /// All bits of a word, or none.

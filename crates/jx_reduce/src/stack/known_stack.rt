@@ -55,7 +55,7 @@ impl Model for KnownStack {
 impl KnownStack {
     ghost use Rattle.jx_reduce.specs.inside.KnownInside.{fault_reading};
 
-    /// At the start of a text. It takes no memory.
+    /// The stack at the start of a text. It takes no memory.
     pub fn new(alloc: Global, depth: Depth) -> KnownStack
         ensures depth { result.depth ≡ depth }
         ensures reads { HasRead [] result }
@@ -68,7 +68,7 @@ impl KnownStack {
         }
     }
 
-    /// How many containers may stand open at once.
+    /// The number of containers that may stand open at once.
     pub fn depth(&self) -> Depth
         ensures { result ≡ self.now.depth }
     {
@@ -101,7 +101,7 @@ impl KnownStack {
         }
     }
 
-    /// At the start of a text again. The memory stays, and a fault that was met is forgotten.
+    /// Puts the stack at the start of a text again. The memory stays, and a fault that was met is forgotten.
     pub fn reset(&mut self)
         ensures depth { self.new.depth ≡ self.old.depth }
         ensures reads { HasRead [] self.new }

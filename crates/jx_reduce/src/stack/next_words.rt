@@ -4,7 +4,7 @@ ghost use Rattle.jx_lex.specs.inside.Bits.{bit};
 ghost use Rattle.jx_reduce.specs.inside.Blocks.{expect_at, LeadsBy, Placed, Turns};
 
 use crate::table::expect::Expect;
-use jx_block::TokenKinds;
+use jx_block::{TokenKinds, is_bit};
 
 /// The expectations before each byte of a block. Bit k of a word stands for byte k.
 #[derive(Clone, Copy)]
@@ -116,15 +116,6 @@ fn wrong(kinds: &TokenKinds, starts: u64, objects: u64, next: &NextWords) -> u64
         | unlike(next.value, to_value(kinds, objects), starts)
         | unlike(next.name, to_name(kinds, objects), starts)
         | unlike(next.first, to_first(kinds, next.value), starts)
-}
-
-/// Whether bit k is set.
-#[inline(always)]
-pub(crate) fn is_bit(word: u64, k: usize) -> bool
-    requires { k < 64 }
-    ensures { result ≡ bit word k }
-{
-    (word >> k) & 1 == 1
 }
 
 /// The expectation before byte k.

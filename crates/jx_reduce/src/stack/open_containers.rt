@@ -132,7 +132,7 @@ impl Containers for OpenContainers {
 }
 
 impl OpenContainers {
-    /// Nothing is open. It takes no memory.
+    /// A list with nothing open. It takes no memory.
     pub fn new(alloc: Global) -> OpenContainers
         ensures { result ≡ [] }
     {

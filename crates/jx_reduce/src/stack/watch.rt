@@ -1,18 +1,25 @@
 // Observers of whole tokens.
-ghost use Rattle.std.specs.Prelude.{◌≡◌, ◌∷◌, [], ℕ, List, false, true};
+ghost use Rattle.std.specs.Prelude.{◌≡◌, ◌∷◌, ◌+◌, ◌<◌, ◌≤◌, ◌^◌, [], ℕ, List, false, length, slice_range, true};
 ghost use Rattle.jx_lex.specs.declared.alphabet.mark.Mark.{Mark as MarkOf};
-ghost use Rattle.jx_lex.specs.Counts.{HasCounts};
+ghost use Rattle.jx_lex.specs.declared.scanner.counts.TokenCounts.{TokenCounts as CountsOf};
+ghost use Rattle.jx_lex.specs.Counts.{HasCounts, number_of};
 ghost use Rattle.jx_lex.specs.Seen.{Grows, has_end};
+ghost use Rattle.jx_block.specs.Kinds.{AreKinds};
+ghost use Rattle.jx_block.specs.Listed.{marks_of};
 ghost use Rattle.jx_reduce.specs.inside.Told.{awaits_mark, heard};
 
+use jx_block::{TokenKinds, counts_of};
 use jx_lex::{Mark, TokenCounts, TokenSink};
 
 /// An observer of whole tokens as they are read: it takes each token in one call, and no call fails.
 pub(crate) trait Watch {
     ghost has_seen: { Self → List MarkOf → List ℕ → Type 0 };
 
-    // what holds between two calls
+    // the invariant between two calls
     ghost awaits: { Self → Type 0 };
+
+    // the token starts and ends by its counts
+    ghost says: { CountsOf → List MarkOf → List ℕ → Type 0 };
 
     /// A structural byte.
     fn mark(&mut self, mark: Mark)
@@ -38,13 +45,22 @@ pub(crate) trait Watch {
     /// Whether it may take the tokens of a block by their counts.
     fn wants_counts(&self) -> bool;
 
+    /// How many bytes are read token by token, before a block is tried again.
+    fn stretch(&self) -> usize;
+
+    /// The counts of the tokens that begin in a block.
+    fn counts(&self, kinds: &TokenKinds) -> TokenCounts
+        ensures { (text ends : List ℕ) (at starts len : ℕ) → AreKinds text at starts kinds.now → at + 64 ≤ length text → len < 64 → starts < 2 ^ len
+            → length ends ≡ number_of has_end (marks_of starts 0 at (slice_range text at (at + len)))
+            → says result (marks_of starts 0 at (slice_range text at (at + len))) ends };
+
     /// Whether it takes the tokens that have these counts at once.
     fn takes_counts(&self, counts: &TokenCounts) -> bool;
 
     /// Tokens that have these counts.
     fn counted(&mut self, counts: &TokenCounts)
         requires turn { awaits self.old }
-        ensures seen { (marks : List MarkOf) (ends : List ℕ) → HasCounts marks ends counts.now → Grows (has_seen self.old) (has_seen self.new) marks ends }
+        ensures seen { (marks : List MarkOf) (ends : List ℕ) → says counts.now marks ends → Grows (has_seen self.old) (has_seen self.new) marks ends }
         ensures turn { awaits self.new };
 }
 
@@ -56,6 +72,8 @@ impl Watch for Nothing {
     ghost has_seen = { λ _ _ _. Unit {0} };
 
     ghost awaits = { λ _. Unit {0} };
+
+    ghost says = { λ _ _ _. Unit {0} };
 
     #[inline(always)]
     fn mark(&mut self, _mark: Mark) {}
@@ -69,6 +87,27 @@ impl Watch for Nothing {
     #[inline(always)]
     fn wants_counts(&self) -> bool {
         true
+    }
+
+    // A block that the grammar stops once is mostly stopped again soon.
+    #[inline(always)]
+    fn stretch(&self) -> usize {
+        16384
+    }
+
+    // It counts nothing.
+    #[inline(always)]
+    fn counts(&self, _kinds: &TokenKinds) -> TokenCounts {
+        TokenCounts {
+            commas: 0,
+            strings: 0,
+            scalars: 0,
+            opening: 0,
+            closing: 0,
+            lowest: 0,
+            lowest_commas: 0,
+            lowest_values: 0,
+        }
     }
 
     #[inline(always)]
@@ -91,6 +130,8 @@ impl<K: TokenSink + Drop> Watch for Listener<K> {
     ghost has_seen = { λ listener. heard listener.has_failed (K.has_seen listener.sink) };
 
     ghost awaits = { λ listener. awaits_mark listener.has_failed (K.awaits listener.sink) };
+
+    ghost says = { λ counts marks ends. HasCounts marks ends counts };
 
     #[inline(always)]
     fn mark(&mut self, mark: Mark) {
@@ -116,6 +157,17 @@ impl<K: TokenSink + Drop> Watch for Listener<K> {
     #[inline(always)]
     fn wants_counts(&self) -> bool {
         self.sink.wants_counts()
+    }
+
+    // A sink that takes no block at one place may take the next one.
+    #[inline(always)]
+    fn stretch(&self) -> usize {
+        1024
+    }
+
+    #[inline(always)]
+    fn counts(&self, kinds: &TokenKinds) -> TokenCounts {
+        counts_of(kinds)
     }
 
     #[inline(always)]

@@ -32,7 +32,7 @@ end_of (Names reader) = names.end_of reader
 end_of (Pointers reader) = finder.end_of reader.finder
 end_of (Elements sequence) = sequence.reader.start + sequence.reader.count
 
--- whatever was read before, the batch was read after it
+-- after any text that was read before, the batch was read
 pub record ReadsOn (batch : List ℕ) (old new : Reading) : Type 0 where
   pub reads : (task : Task) (settings : Settings) (text : List ℕ) → IsReadingOf task settings text old → IsReadingOf task settings (text ++ batch) new
 

@@ -18,7 +18,7 @@ answer_of (Some fault) answered = answer.Unread fault
 answer_of None (in_index.Found node kind span) = answer.Found kind span
 answer_of None (in_index.Fault fault) = answer.Lost fault
 
--- what strings lead to in the text of an index that has the rows of the text's tree
+-- the answers to strings in the text of an index that has the rows of the text's tree
 abbrev pub AreAnswersIn : IndexedValue → List (List ℕ) → List PointerAnswer → Type 0
 AreAnswersIn index spelt answers =
     (limit : ℕ) (tree : Tree) → IsText index.text index.span.start index.span.end limit tree → index.rows ≡ rows tree

@@ -36,7 +36,7 @@ abbrev pub IsRefusalByNames : Settings → List ℕ → Option Refusal → Type 
 IsRefusalByNames settings text None = (settings.names ≡ Unique) → IsVerdictBy settings text Accepted
 IsRefusalByNames settings text (Some refusal) = IsVerdictBy settings text (Refused refusal)
 
--- what these strings encode as pointers is looked up in these bytes, and names are compared
+-- the pointers that these strings encode are looked up in these bytes, and names are compared
 pub record AreLookedUp (settings : Settings) (spelt : List (List ℕ)) (text : List ℕ) (reader : PointerReader) : Type 0 where
   pub pointers : List (List ℕ)
   pub read : AreReadPointers spelt pointers reader.unread.items

@@ -7,7 +7,7 @@ use Rattle.jx_reduce.specs.declared.table.expect.Expect.TheVariants as expect
 use Rattle.jx_reduce.specs.declared.table.holder.Holder.{Holder}
 use Rattle.jx_reduce.specs.declared.table.holder.Holder.TheVariants as holder
 
--- what ends the token that a state is in; a number ends before the space
+-- the bytes that end the token that a state is in; a number ends before the space
 abbrev pub finish : LexState → List ℕ
 finish state.Gap = []
 finish state.Str = 0x22 ∷ []
@@ -42,7 +42,7 @@ finish state.N = 0x75 ∷ 0x6c ∷ 0x6c ∷ []
 finish state.Nu = 0x6c ∷ 0x6c ∷ []
 finish state.Nul = 0x6c ∷ []
 
--- what is due where this may stand next, up to the end of a value
+-- the bytes that are due where this may stand next, up to the end of a value
 abbrev pub fill : Expect → List ℕ
 fill expect.Value = 0x30 ∷ 0x20 ∷ []
 fill expect.ArrayFirst = 0x30 ∷ 0x20 ∷ []

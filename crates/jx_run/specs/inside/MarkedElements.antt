@@ -8,6 +8,6 @@ use Rattle.jx_run.specs.Parted as parted
 abbrev pub AreMarked : ℕ → List Part → MarkedElementsValue → Type 0
 AreMarked = parted.IsMarked judging
 
--- what is before the first separator, and the elements from there on, are those of the bytes
+-- the part before the first separator, and the elements from there on, are those of the bytes
 abbrev pub IsSummaryOf : List ℕ → PartRunValue → Option MarkedElementsValue → Type 0
 IsSummaryOf = parted.IsSummary judging

@@ -30,7 +30,7 @@ pub record IsAt (limit : ℕ) (marks : List Mark) (structures : List StructureVa
   pub at : slice_get structures i ≡ Some form
   pub of : IsReduced limit marks form
 
--- what stands in this place is the structure of this token alone
+-- the structure in this place is that of this token alone
 abbrev pub IsLoneIn : ℕ → List StructureValue → Lone → Type 0
 IsLoneIn limit structures lone = IsAt limit (lone.mark ∷ []) structures lone.number
 
@@ -54,7 +54,7 @@ path_at ps n = path_from 0 ps (Ahead n)
 abbrev pub AreNumbered : ℕ → List SegmentValue → List (Option ℕ) → List StructureValue → Type 0
 AreNumbered limit ps numbers structures = (n i : ℕ) → slice_get numbers n ≡ Some (Some i) → IsAt limit (flat_map (marks_at ps) (path_at ps n)) structures i
 
--- what was made of a map so far, the structures of segments and of paths
+-- the structures that were made of a map so far, of segments and of paths
 pub record ArePaths (limit : ℕ) (m : Map) (slots : List (Option StructureValue)) (numbers : List (Option ℕ)) (structures : List StructureValue) : Type 0 where
   pub slots_all : length slots ≡ length m.segments
   pub numbers_all : length numbers ≡ length m.segments + 1

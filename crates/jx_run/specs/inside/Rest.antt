@@ -38,8 +38,7 @@ abbrev pub AreReadTransitions : ℕ → ℕ → List ℕ → List Transition →
 AreReadTransitions limit start bytes reached structures transitions s = Reaches reached s
     → (w : Transition) × (slice_get transitions (ordinal s) ≡ Some w) × IsReadTransition limit start bytes structures s w
 
--- what a reducer has seen of the tokens of a scan; the ends are ignored, but that they begin with the depth, which
--- therefore stays
+-- the tokens of a scan that a reducer has seen; the ends are ignored, but that they begin with the depth, which therefore stays
 pub record HasTaken (marks : List Mark) (ends : List ℕ) (reducer : ReducerValue) : Type 0 where
   pub reduced : HasReduced marks reducer
   pub rest : List ℕ

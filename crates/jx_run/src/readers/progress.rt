@@ -37,7 +37,7 @@ pub enum Progress {
     Failed,
 }
 
-/// Where the reading of a text begins.
+/// The progress at which the reading of a text begins.
 pub fn progress_at_start(mark: FrontMark) -> Progress
     ensures read { (settings : Settings) (start : ℕ) (stack : Known) → settings.mark ≡ mark → stack.depth ≡ settings.depth → StackHasRead [] stack
         → IsReadTo settings start [] result stack }

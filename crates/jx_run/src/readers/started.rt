@@ -44,7 +44,7 @@ impl Started {
         }
     }
 
-    /// Where its bytes stand, as offsets in the whole input.
+    /// The span of its bytes, as offsets in the whole input.
     pub fn span(&self) -> Span
         ensures span { result ≡ self.now.span }
     {

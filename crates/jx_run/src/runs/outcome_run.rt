@@ -224,7 +224,7 @@ impl OutcomeRun {
         verdict_of(transition.exit, structure)
     }
 
-    /// Where reading from a state ends, or the offset at which the lexical machine faults.
+    /// The state in which reading from a state ends, or the offset at which the lexical machine faults.
     pub fn exit(&self, state: LexState) -> LexExit
         ensures exit { exit_of result ≡ exit_at self.now state }
     {

@@ -76,7 +76,7 @@ impl TextRun {
         self.map.entry(LexState::Gap).ends()
     }
 
-    /// Where reading from a state ends, or the offset at which the lexical machine faults.
+    /// The state in which reading from a state ends, or the offset at which the lexical machine faults.
     pub fn exit(&self, state: LexState) -> LexExit
         ensures exit { exit_of result ≡ exit_at (outcomes_of self.now) state }
     {

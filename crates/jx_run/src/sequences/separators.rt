@@ -22,8 +22,8 @@ pub(crate) fn next_separator(text: &[u8], start: usize, end: usize) -> Option<us
     Some(start + skipped)
 }
 
-/// From the first record separator of the bytes up to after the last one (RFC 7464, section 2.2); none where there is
-/// none.
+/// The span from the first record separator of the bytes up to after the last one (RFC 7464, section 2.2); none where
+/// there is none.
 pub fn separated_part(bytes: &[u8]) -> Option<Span>
     ensures none { IfNone result (HasNoSeparator bytes.now) }
     ensures ordered { IfSome result (λ s. s.start < s.end) }

@@ -114,7 +114,7 @@ IsPlainValue bytes = IsNumber bytes ⊎ IsPlain bytes
 
 -- ---- lists that grow
 
--- what follows the elements of an array so far: what is left, or a comma and others
+-- the bytes after the elements of an array so far: the rest, or a comma and others
 abbrev pub GoesOn : ℕ → List ℕ → List ℕ → Type 0
 GoesOn limit more rest = (more ≡ rest) ⊎ ((bytes : List ℕ) × ((more ≡ 0x2c ∷ bytes) × AreItems limit bytes rest))
 
@@ -160,6 +160,20 @@ pub record AddsString (before after : List ℕ) : Type 0 where
   pub units : List ℕ
   pub is_string : IsString name units
   pub whole : after ≡ before ++ name
+
+-- the number of a kind (Language Server Protocol 3.17, "SymbolKind")
+abbrev pub symbol_kind : Kind → List ℕ
+symbol_kind kind.String = codes "15"
+symbol_kind kind.Number = codes "16"
+symbol_kind kind.True = codes "17"
+symbol_kind kind.False = codes "17"
+symbol_kind kind.Array = codes "18"
+symbol_kind kind.Object = codes "19"
+symbol_kind kind.Null = codes "21"
+
+-- its member, with the commas around it
+abbrev pub kind_member : Kind → List ℕ
+kind_member kind = (codes ",\"kind\":" ++ symbol_kind kind) ++ codes ","
 
 -- the name and the kind of a value
 pub record AddsNamed (before after : List ℕ) : Type 0 where

@@ -1,5 +1,6 @@
--- A value among bytes that are kept of a text.
-use Rattle.std.specs.Prelude.{◌≡◌, ℕ, List}
+-- Values among bytes that are kept of a text.
+use Rattle.std.specs.Prelude.{◌≡◌, ℕ, List, ◌++◌}
+use Rattle.std.specs.List.{AllZip}
 use Rattle.jx_words.specs.declared.pointer_answer.PointerAnswer.{PointerAnswer}
 use Rattle.jx_values.specs.declared.form.Form.{Form}
 use Rattle.jx_values.specs.Values.{told_line, value_line}
@@ -8,3 +9,11 @@ use Rattle.jx_values.specs.Values.{told_line, value_line}
 pub record AreSame (text : List ℕ) (answer : PointerAnswer) (bytes : List ℕ) (here : PointerAnswer) : Type 0 where
   pub line : (form : Form) → value_line form bytes here ≡ value_line form text answer
   pub told : (form : Form) (pointer : List ℕ) → told_line form bytes pointer here ≡ told_line form text pointer answer
+
+-- whatever bytes follow those
+abbrev pub StaySame : List ℕ → List ℕ → PointerAnswer → PointerAnswer → Type 0
+StaySame text bytes answer here = (more : List ℕ) → AreSame text answer (bytes ++ more) here
+
+-- each in its place
+abbrev pub AllStaySame : List ℕ → List ℕ → List PointerAnswer → List PointerAnswer → Type 0
+AllStaySame text bytes answers moved = AllZip (StaySame text bytes) answers moved

@@ -13,7 +13,7 @@ fn terms(line: &mut Line<'_>) -> Option<(u32, Workers)> {
     Some((pieces, Workers::new(workers)?))
 }
 
-/// What the worker handles of these letters get, one after another; one that got nothing, or does not exist, is left out.
+/// Appends the chunks that the worker handles of these letters get, one after another; one that got nothing, or does not exist, is left out.
 fn push_draws(out: &mut Out, claims: &Claims, seats: &mut Vec<ClaimSeat>, letters: &[u8])
     requires { AllSeats claims.now seats.old.items }
     ensures { AllSeats claims.now seats.new.items }

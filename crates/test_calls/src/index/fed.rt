@@ -1,4 +1,4 @@
-// What pointers lead to in a text that is fed by slices.
+// The answers to pointers in a text that is fed by slices.
 use crate::index::pointers::pointers_of;
 use jx_find::Finder;
 use jx_index::{FindFault, Found};
@@ -12,7 +12,7 @@ const FAR: usize = 1 << 40;
 /// Up to which size slices are fed, so that a shorter text is cut everywhere.
 const LONGEST: usize = 200;
 
-/// What the pointers in these words lead to in a text that is fed by slices of so many bytes. A refused text has no answers.
+/// The answers to the pointers in these words in a text that is fed by slices of so many bytes. A refused text has no answers.
 fn fed(
     alloc: Global,
     text: &[u8],

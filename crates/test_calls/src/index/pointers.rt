@@ -1,4 +1,4 @@
-// What pointers lead to.
+// The answers to pointers.
 ghost use Rattle.std.specs.Prelude.{◌≡◌, length};
 
 use crate::index::fed::is_fed_alike;
@@ -10,7 +10,7 @@ use std::alloc::{AllocError, Global};
 use std::slice;
 use test_words::{Line, Out, push_found};
 
-/// What a pointer leads to.
+/// The answer to a pointer.
 type Led = Result<Found, FindFault>;
 
 /// The span of all of a text.
@@ -39,10 +39,10 @@ pub(crate) fn read_index<'t>(line: &mut Line<'_>, text: &'t [u8]) -> Option<Inde
     }
 }
 
-/// What is answered where an index of a text and one pass over it do not agree.
+/// The answer where an index of a text and one pass over it do not agree.
 const DIFFER: &str = "the index and one pass differ";
 
-/// What is answered where one pass over a text and a finder that is fed it by slices do not agree.
+/// The answer where one pass over a text and a finder that is fed it by slices do not agree.
 const FED_ELSEWHERE: &str = "slices differ";
 
 /// The pointers in these words, without words that are not pointers.
@@ -56,7 +56,7 @@ pub(crate) fn pointers_of(alloc: Global, words: &[String]) -> Result<Vec<Pointer
     Ok(pointers)
 }
 
-/// What pointers lead to in a text by one pass over it for all of them, in order. A refused text has no answers.
+/// The answers to pointers in a text by one pass over it for all of them, in order. A refused text has no answers.
 fn found_at_once(
     alloc: Global,
     text: &[u8],
@@ -79,7 +79,7 @@ fn push_row_as(out: &mut Out, row: &Row, wanted: &Led) {
     }
 }
 
-/// What a pointer leads to in an index, if that is wanted.
+/// Appends the answer to a pointer in an index, if that is wanted.
 fn push_in_index(out: &mut Out, index: &Indexed<'_>, pointer: &Pointer<'_>, wanted: &Led) {
     match index.find(pointer) {
         Ok(node) => push_row_as(out, index.row(node), wanted),
@@ -88,7 +88,7 @@ fn push_in_index(out: &mut Out, index: &Indexed<'_>, pointer: &Pointer<'_>, want
     }
 }
 
-/// What a pointer leads to in an index, if one pass over the text for it alone gives this too.
+/// Appends the answer to a pointer in an index, if one pass over the text for it alone gives this too.
 fn push_agreed(
     out: &mut Out,
     alloc: Global,
@@ -129,7 +129,7 @@ fn push_led(
     push_agreed(out, alloc, index, &pointer, first)
 }
 
-/// What each pointer leads to.
+/// Appends the answer to each pointer.
 fn push_each(
     out: &mut Out,
     alloc: Global,

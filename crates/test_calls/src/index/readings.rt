@@ -30,7 +30,7 @@ fn told_of_answer(alloc: Global, answer: &TextAnswer<'_>) -> Out {
     }
 }
 
-/// What one pass over a span gives, with these pauses.
+/// The result of one pass over a span, with these pauses.
 fn in_one_pass<P: Pace>(
     alloc: Global,
     text: &[u8],
@@ -47,7 +47,7 @@ fn in_one_pass<P: Pace>(
     }
 }
 
-/// What a run over a span gives, started.
+/// The result of a run over a span, started.
 fn by_started_run(alloc: Global, text: &[u8], span: Span, depth: Depth) -> Result<Out, AllocError>
     requires ordered { span.start ≤ span.end }
     requires within { span.end ≤ length text.now }
@@ -60,7 +60,7 @@ fn by_started_run(alloc: Global, text: &[u8], span: Span, depth: Depth) -> Resul
     }
 }
 
-/// What a run over the end of a text gives.
+/// The result of a run over the end of a text.
 fn by_run_to_end(alloc: Global, text: &[u8], start: usize, depth: Depth) -> Result<Out, AllocError>
     requires within { start ≤ length text.now }
 {
@@ -68,7 +68,7 @@ fn by_run_to_end(alloc: Global, text: &[u8], start: usize, depth: Depth) -> Resu
     Ok(told_of_answer(alloc, &TextAnswer::of_run(alloc, text, &run)?))
 }
 
-/// What one pass over the end of a text gives.
+/// The result of one pass over the end of a text.
 fn in_one_pass_to_end(
     alloc: Global,
     text: &[u8],

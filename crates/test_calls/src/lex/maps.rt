@@ -63,7 +63,7 @@ fn push_view(
     Ok(())
 }
 
-/// What the join at a cut of the whole text shows.
+/// The view that the join at a cut of the whole text shows.
 fn shown_at(alloc: Global, text: &[u8], cut: usize, state: LexState) -> Result<Out, AllocError>
     requires { cut ≤ length text.now }
 {
@@ -85,7 +85,7 @@ pub(crate) fn cut(line: &mut Line<'_>) {
     ways.push_to(&mut line.out);
 }
 
-/// What a join holds too many of, or another span than that of both: nothing where it is right.
+/// Appends what a join holds too many of, or another span than that of both: nothing where it is right.
 fn push_excess(out: &mut Out, joined: &Joined, start: usize, end: usize) {
     let stored = joined.map.stored();
     if stored > joined.left.saturating_add(joined.right) {

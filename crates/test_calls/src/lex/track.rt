@@ -1,4 +1,4 @@
-// What reading from one state gives: token starts, ends and an exit.
+// The result of reading from one state: token starts, ends and an exit.
 use jx_lex::{LexExit, LexState, Mark, TokenEnd, step};
 use jx_maps::TrackView;
 use std::alloc::{AllocError, Global};
@@ -13,7 +13,7 @@ pub(crate) struct Track {
 }
 
 impl Track {
-    /// What a view shows.
+    /// The track that a view shows.
     pub(crate) fn of_view(alloc: Global, view: &TrackView<'_>) -> Result<Track, AllocError> {
         let mut marks = Vec::new(alloc);
         for mark in view.marks() {
@@ -26,7 +26,7 @@ impl Track {
         })
     }
 
-    /// What reading bytes gives from a state, by one step after another; the first byte has this offset.
+    /// The track of reading bytes from a state, by one step after another; the first byte has this offset.
     pub(crate) fn by_steps(
         alloc: Global,
         state: LexState,

@@ -1,4 +1,4 @@
--- What a worker that began with nothing hands back where it ended.
+-- The values that a worker that began with nothing hands back where it ended.
 use Rattle.std.specs.Prelude.{◌≡◌, ◌+◌, List, [], true, false}
 use Rattle.jx_summary.specs.declared.span.Span.{Span}
 use Rattle.jx_claim.specs.Claimed.{TableId, SeatValue}

@@ -21,7 +21,7 @@ use std::sync::Wait;
 use std::thread::Threads;
 use test_memory_of_runs::inputs::Worked;
 
-/// What answers on a text.
+/// A call that answers on a text.
 #[derive(Clone, Copy)]
 pub enum TextCall {
     /// `index_text`, which takes no settings but the depth.
@@ -45,7 +45,7 @@ pub const ALL_TEXT_CALLS: [TextCall; 4] = [
     TextCall::Run,
 ];
 
-/// What answers on a sequence.
+/// A call that answers on a sequence.
 #[derive(Clone, Copy)]
 pub enum SequenceCall {
     /// `index_sequence`, which takes no settings but the depth.
@@ -75,7 +75,7 @@ pub struct LookUps<'a> {
     pub want: &'a [LookUp],
 }
 
-/// What a crew is asked, with what is right.
+/// A call that is asked of a crew, with what is right.
 #[derive(Clone, Copy)]
 pub enum Asked<'a> {
     Text(TextCall, &'a Worked),

@@ -76,7 +76,7 @@ fn a_run_that_begins_before_the_front_is_handed_back(rt: HostRuntime) {
     assert!(rt; is_other_of_one(&rt, rt.alloc(), NESTED, &cutting));
 }
 
-// What a worker begins with.
+// The values with which a worker begins.
 #[derive(Drop)]
 struct Hands<P: Ledger, T: Ledger> {
     seat: ClaimSeat,

@@ -10,7 +10,7 @@ use std::thread::Threads;
 mod answers;
 mod look_ups;
 
-// What is asked of so many workers: the right answer, or out of memory, and then the right one where it is asked for again.
+// The question to so many workers: the right answer, or out of memory, and then the right one where it is asked for again.
 fn check<R: Abort + Threads + Wait + Sync>(
     rt: &R,
     alloc: Global,

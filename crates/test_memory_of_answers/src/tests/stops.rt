@@ -71,7 +71,7 @@ fn meets_a_stop<R: Abort + Threads + Wait + Sync>(
     gate.has_stopped()
 }
 
-// What is asked of so many workers, who stop from each event on in turn until a run meets no stop. The first run meets one, as
+// The question to so many workers, who stop from each event on in turn until a run meets no stop. The first run meets one, as
 // there are two chunks or more; there the calling thread reads all.
 fn check<R: Abort + Threads + Wait + Sync>(
     rt: &R,

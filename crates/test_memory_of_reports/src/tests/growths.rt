@@ -28,7 +28,7 @@ impl Gate for Passing {
     }
 }
 
-// What is asked of an input.
+// The question that is asked of an input.
 #[derive(Clone, Copy, Debug)]
 enum Asked {
     Check,
@@ -37,7 +37,7 @@ enum Asked {
     Seq,
 }
 
-// What is asked of an input, what becomes of a byte order mark and of names, the input, what is written, and how the report ends.
+// The question, the rules on a byte order mark and on names, the input, the output, and how the report ends.
 type Case = (
     Asked,
     (FrontMark, NameRule),

@@ -39,7 +39,7 @@ fn drain(
     Ok((seat, got))
 }
 
-// What four threads get together of 1,000 chunks, in rising order. Its one bound is `Threads`: taking a chunk does not wait.
+// The chunks that four threads get together of 1,000, in rising order. Its one bound is `Threads`: taking a chunk does not wait.
 fn drawn_by_four_threads<R: Threads + Sync>(rt: &R, alloc: Global) -> Result<Vec<u32>, Fail> {
     let workers = Workers::new(4).ok_or("four workers")?;
     let (claims, seats) = Claims::open(alloc, 1000, workers)?;

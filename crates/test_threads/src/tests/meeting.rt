@@ -7,7 +7,7 @@ const NOBODY: u64 = u64::MAX;
 /// How often the worker that waits looks whether it may go on.
 const TURNS: u32 = 200_000_000;
 
-/// What another worker has to have done before the first one goes on.
+/// A step that another worker has to have done before the first one goes on.
 #[derive(Clone, Copy, PartialEq, Eq)]
 pub enum Until {
     /// It took a chunk.

@@ -1,4 +1,4 @@
-// What is published on a shelf, and who sees it.
+// The index that is published on a shelf, and who sees it.
 use jx_index::Indexed;
 use jx_lex::Depth;
 use jx_run::{Summary, TextRun, Verdict};

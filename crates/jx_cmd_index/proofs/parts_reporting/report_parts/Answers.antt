@@ -57,10 +57,10 @@ returns-clause-ok g c =
     let saved = g.S.Source.remaining c.args.saved.now in
     let content = g.F.ReadAt.content c.args.file.now in
     let answer = c.in-Err.answer in
-    let all : c.deref-in-Err.result.now ≡ told_words answer = c.deref-in-Err.ensures.value ∙ c.in_ok-told-in-Err.ensures in
+    let all : c.deref-in-Err.result.now ≡ told_words c.args.pointer.now answer = c.deref-in-Err.ensures.value ∙ c.in_ok-told-in-Err.ensures in
     record {
       output = [];
-      tells = told_words answer;
+      tells = told_words c.args.pointer.now answer;
       are_parts = are_parts c.args.parts c.args.pointer.now saved content c.in_ok-read.read c.in_ok-parts.field-0 (Err answer) c.in_ok-read.ensures.reads c.in_ok-parts.ensures.split c.in-Err.is;
       wrote = Appends-nil (g.W.Sink.contents c.args.writer.now);
       says = λ lost. subst (λ (l : List ℕ). Appends (g.E.Sink.contents c.args.errors.now) (g.E.Sink.contents c.tell.new.errors) l) all (c.tell.ensures lost);

@@ -2,7 +2,8 @@ use Rattle.std.proofs.Common.{◌≡◌, ℕ, List, [], ◌++◌, codes, ap, ◌
 use Rattle.jx_words.specs.Verdicts.{shown_output}
 use Rattle.jx_files.specs.declared.status.Status.{Status}
 use Rattle.jx_files.specs.Files.{ways_of, answered, no_memory, not_answered, part, IsReportedAt}
-use Rattle.jx_files.specs.Naming.{named, shown}
+use Rattle.jx_files.specs.Naming.{named}
+use Rattle.jx_words.specs.Showing.{shown}
 use Rattle.jx_files.specs.Status.{status_of}
 use Rattle.jx_files.proofs.reports.part_of.Goals as goal
 

@@ -1,4 +1,4 @@
-use Rattle.std.proofs.Common.{List, ℕ, ap, length, map, sym, ◌∙◌}
+use Rattle.std.proofs.Common.{List, ℕ, ap, length, map, ◌∙◌}
 use Rattle.jx_index.specs.declared.finder.Met.{Met}
 use Rattle.jx_index.specs.declared.wanted.Wanted.{Wanted}
 use Rattle.jx_index.specs.Pointers.{tokens}

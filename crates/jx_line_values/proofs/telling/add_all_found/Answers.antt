@@ -15,7 +15,7 @@ loop-place-preserved c =
     let test = c.loop-place-test.true in
     let same = c.requires in
     let low : i < length spelt = omega (arith, test, same, length-map c.args.pointers.now string_bytes) in
-    one_more_told c.args.number spelt found i pointer one c.loop-place.told.items c.add_found.new.told.items low test
+    one_more_told c.args.form c.args.number c.args.line.now spelt found i pointer one c.loop-place.told.items c.add_found.new.told.items low test
     (sym (get_or_from_slice_get spelt i pointer pointer c.spelt_at.ensures)) (sym (get_or_from_slice_get found i one one c.found_at.ensures))
     c.in_ok-add_found.ensures
     ∙ c.loop-place.invariant

@@ -6,4 +6,4 @@ use Rattle.jx_line_values.proofs.telling.add_all_found.Given as goal
 
 abbrev pub invariant-loop-place : goal.invariant-loop-place
 invariant-loop-place l =
-    l.told.items ++ told_of_all l.number (drop l.place (map string_bytes l.pointers)) (drop l.place l.found) ≡ l.initial.told.items ++ told_of_all l.number (map string_bytes l.pointers) l.found
+    l.told.items ++ told_of_all l.form l.number l.line (drop l.place (map string_bytes l.pointers)) (drop l.place l.found) ≡ l.initial.told.items ++ told_of_all l.form l.number l.line (map string_bytes l.pointers) l.found

@@ -10,6 +10,7 @@ loop-preserved g c = record {
   next = tt;
   finite = tt;
   room = search rules;
+  round = search rules;
   writer = search rules;
   none_wait = search rules;
   told = c.in_ok-more.ensures.told (g.W.Sink.contents c.args.writer.now) c.loop.invariant.told;

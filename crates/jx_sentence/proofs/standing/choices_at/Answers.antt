@@ -9,8 +9,8 @@ use Rattle.jx_sentence.proofs.Exact.{exact}
 use Rattle.jx_sentence.proofs.Table.{exact_choices, whole_steps}
 use Rattle.jx_sentence.proofs.standing.choices_at.Goals as goal
 
-pub returns : goal.returns
-returns c = λ limit from bytes byte stands.
+pub returns-clause-allowed : goal.returns-clause-allowed
+returns-clause-allowed c = λ limit from bytes byte stands.
     let s = c.args.standing.now in
     let named : are_named (choices_of c.choices_for.result) (class_at byte) ≡ step_allowed (move s.state byte) s.expect (top stands.open_ones) =
     ap (λ (choices : List Choice). are_named choices (class_at byte)) c.choices_for.ensures

@@ -9,18 +9,20 @@ use Rattle.jx_values.proofs.sought.told_of_elements.Goals as goal
 pub returns-in-Some : goal.returns-in-Some
 returns-in-Some c =
     let settings = c.args.each.now.reader.settings in
+    let pointer = c.args.pointer.now in
     IfOk-weaker c.told_of_sought.result _ _
-    (λ told found. λ pointer text given taken looked judged.
+    (λ told found. λ text given taken looked judged.
     subst (λ v. TellsByVerdict c.args.content settings pointer text v told.items) (sym c.in-Accepted.is)
     (tells_found c.args.content settings pointer text told.items c.token_count.result (c.token_count.ensures ∙ ap length taken.path_is)
-    (found (any_names settings) pointer text (subst (λ f. HasSought c.args.content (any_names settings) pointer text f) c.in-Some.is looked))))
+    (found (any_names settings) text (subst (λ f. HasSought c.args.content (any_names settings) pointer text f) c.in-Some.is looked))))
     c.told_of_sought.ensures
 
 pub returns-in-None : goal.returns-in-None
 returns-in-None c =
     let settings = c.args.each.now.reader.settings in
+    let pointer = c.args.pointer.now in
     IfOk-weaker c.told_of_root.result _ _
-    (λ told e. λ pointer text given taken looked judged.
+    (λ told e. λ text given taken looked judged.
     subst (λ v. TellsByVerdict c.args.content settings pointer text v told.items) (sym c.in-Accepted.is)
     (tells_root c.args.content settings pointer text told.items c.is_container.result (subst (λ f. HasSought c.args.content (any_names settings) pointer text f) c.in-None.is looked)
     (subst (λ v. JudgedBy settings 0 text v) c.in-Accepted.is judged)

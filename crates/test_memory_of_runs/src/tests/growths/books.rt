@@ -39,7 +39,7 @@ const INPUTS: [(Runs, &[u8]); 7] = [
     (Runs::Sequences, SEQUENCE),
 ];
 
-// What becomes of the bytes of a text.
+// The use that is made of the parts of a text.
 #[derive(Clone, Copy)]
 enum Part {
     /// Both sides of each cut are joined.
@@ -545,7 +545,7 @@ fn is_one_run<S: Likeness>(
     }
 }
 
-/// What is in the hand of a worker that stopped when out of memory is put: the worker's share.
+/// Puts the run in the hand of a worker that stopped when out of memory: the worker's share.
 fn share_behind_hand<'a, S: Likeness, P: Ledger, T: Ledger, R: Wait>(
     rt: &R,
     alloc: Global,
@@ -595,8 +595,7 @@ fn read_on<'a, S: Likeness, P: Ledger, T: Ledger, R: Wait>(
     }
 }
 
-/// What is in the hand of a worker that stopped when out of memory is put, and the worker goes on to its end: its
-/// share.
+/// Puts the run in the hand of a worker that stopped when out of memory, and lets the worker go on to its end: its share.
 fn share_of_stopped<'a, S: Likeness, P: Ledger, T: Ledger, R: Wait>(
     rt: &R,
     alloc: Global,

@@ -1,4 +1,4 @@
-// What is made of both sides of each cut of a text, joined where an allocation fails.
+// The values that are made of both sides of each cut of a text, joined where an allocation fails.
 ghost use Rattle.std.specs.Prelude.{◌≤◌, length};
 
 use crate::inputs::Worked;
@@ -10,7 +10,7 @@ use jx_run::{OutcomeRun, SeqRun, TextRun};
 use std::alloc::{AllocError, Global};
 use std::process::Abort;
 
-/// What is made of each side of a cut, and what the join has to be.
+/// The values that are made of each side of a cut, and what the join has to be.
 #[derive(Clone, Copy)]
 pub(crate) enum Joined<'a> {
     Maps,

@@ -1,4 +1,4 @@
-// What is made of each text that was worked out, where an allocation fails.
+// The values that are made of each text that was worked out, where an allocation fails.
 use crate::inputs::{TEXTS, Worked};
 use crate::lines::Lines;
 use crate::tests::checks::assert_right;
@@ -8,7 +8,7 @@ use std::alloc::Global;
 use std::env::Env;
 use std::process::Abort;
 
-/// What is made of a text.
+/// The values that are made of a text.
 #[derive(Clone, Copy)]
 pub(crate) enum Made {
     TextRuns,
@@ -16,7 +16,7 @@ pub(crate) enum Made {
     Indexes,
 }
 
-/// What is made of each text.
+/// Checks what is made of each text.
 pub(crate) fn check_texts<R: Abort + Env>(rt: &R, alloc: Global, made: Made) {
     let mut lines = Lines::of(rt);
     for worked in &TEXTS {

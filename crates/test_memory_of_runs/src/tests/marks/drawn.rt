@@ -22,7 +22,7 @@ impl Drawn {
         }
     }
 
-    /// What may stand next.
+    /// The tokens that may stand next.
     pub(crate) fn expect(&self) -> Expect {
         self.expect
     }

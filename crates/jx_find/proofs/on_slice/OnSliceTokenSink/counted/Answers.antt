@@ -15,4 +15,4 @@ returns-clause-seen g c = λ ms es h marks ends s.
     let k = c.args.self.now in
     let counts = c.args.counts.now in
     has_counted g.B.Before.held g.B.Before.slice g.B.Before.edges marks ends k.slice.now k.base k.edges.now k.seeker _ k.begun k.name.items counts ms es (none_of k.begun c.requires.turn)
-    (counts_on k.edges.now counts k.seeker _ c.in-Some-children_behind.count c.in-Some-children_behind.ensures.fits c.in-Some-children_behind.ensures.counts refl refl refl refl c.set_count.ensures) h s
+    (counts_on k.edges.now counts k.seeker _ c.in-Some-place_behind.place.count c.in-Some-place_behind.ensures.fits c.in-Some-place_behind.ensures.counts c.in-Some-place_behind.ensures.skipped refl refl refl c.set_count.ensures) h s

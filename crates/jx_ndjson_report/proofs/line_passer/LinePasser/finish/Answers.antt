@@ -18,4 +18,4 @@ returns c = λ bytes given said h.
     subst (λ (t : LineTellerValue). PassOutput task bytes (given ++ c.pass.new.self.ready) (said ++ t.ready) c.in_ok-exit.exit) (sym c.pass.ensures.teller)
     (pass_ends c.unique_answer.ensures.one task bytes given said c.finish.new.self.ready c.pass.new.self.ready line old c.in_ok-exit.exit o c.last_line-last.ensures.told
     (spans_of line old.teller.lines.reader.start (old.teller.lines.reader.start + old.teller.lines.reader.count) c.last_line-last.ensures.span)
-    c.in_ok-pass.ensures.ready (c.in_ok-exit.ensures.output bytes said o.taken))
+    c.in_ok-pass.ensures.ready (c.in_ok-exit.ensures.ended tt tt bytes said o.taken))

@@ -2,7 +2,7 @@ use Rattle.std.proofs.Common.{List, ◌+◌, ap, arith, subst, sym, ◌∙◌}
 use Rattle.std.specs.Prelude.{slice_range}
 use Rattle.jx_lex.specs.declared.alphabet.mark.Mark.{Mark}
 use Rattle.jx_lex.specs.declared.alphabet.state.LexState.TheVariants.{Gap}
-use Rattle.jx_lex.specs.Counts.{HasCounts, number_of}
+use Rattle.jx_lex.specs.Counts.{number_of}
 use Rattle.jx_lex.specs.Lex.{lex}
 use Rattle.jx_lex.specs.Seen.{has_end}
 use Rattle.jx_lex.proofs.Counts.{ends-counted}
@@ -34,6 +34,6 @@ returns-clause-seen g c =
     let bytes = slice_range text at (at + masks.len) in
     let ends = (lex Gap at bytes).ends in
     c.counted.ensures.seen (lex Gap at bytes).marks ends
-    (subst (λ (ms : List Mark). HasCounts ms ends c.counts_of-counts.result) (sym m.marks)
-    (c.counts_of-counts.ensures text ends at masks.starts masks.len m.kinds (omega (arith, room, c.requires.bounds)) m.bounds.1 m.few
+    (subst (λ (ms : List Mark). g.W.Watch.says c.counts-counts.result ms ends) (sym m.marks)
+    (c.counts-counts.ensures text ends at masks.starts masks.len m.kinds (omega (arith, room, c.requires.bounds)) m.bounds.1 m.few
     (ends-counted at bytes m.exit ∙ ap (number_of has_end) m.marks)))

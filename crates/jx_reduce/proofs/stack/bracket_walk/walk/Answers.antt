@@ -1,12 +1,12 @@
-use Rattle.std.proofs.Common.{◌≡◌, ◌∙◌, ◌<◌, ◌≤◌, ◌-◌, ◌+◌, ◌⊎◌, inl, inr, ℕ, Bool, true, false, refl, ap, sym, subst, arith, w64, bit_and, ◌++◌}
+use Rattle.std.proofs.Common.{◌≡◌, ◌∙◌, ◌<◌, ◌≤◌, ◌-◌, ◌+◌, ◌⊎◌, inl, inr, ℕ, Bool, true, false, refl, ap, sym, subst, arith, w64, ◌++◌}
 use Rattle.std.specs.Int.{trailing_zeros}
 use Rattle.jx_lex.specs.inside.Bits.{bit}
 use Rattle.std.proofs.lemmas.Bool.{cases_lt}
 use Rattle.jx_lex.proofs.Bits.{bit-none}
-use Rattle.jx_block.proofs.Words.{Cleared, cleared, lowest_set}
+use Rattle.jx_block.proofs.Words.{cleared, lowest_set, none_left, not_before}
 use Rattle.jx_reduce.specs.Bits.{in_word}
 use Rattle.jx_reduce.specs.inside.Blocks.{container, Walks}
-use Rattle.jx_reduce.proofs.BlockWalk.{any_bracket, bracket-bit, not_before, walks-on, walks-over}
+use Rattle.jx_reduce.proofs.BlockWalk.{any_bracket, bracket-bit, walks-on, walks-over}
 use Rattle.jx_reduce.proofs.stack.bracket_walk.walk.Goals as goal
 
 pub loop-left-init : goal.loop-left-init
@@ -30,14 +30,6 @@ bracket-requires-clause-bracket c =
     let v = c.loop-left.invariant in
     let low = lowest_set c.loop-left.left (omega arith) (omega arith) in
     is_bracket (any_bracket c.args.kinds.now) c.loop-left.left c.loop-left.from v.none v.others (trailing_zeros w64 c.loop-left.left) low.0 low.1
-
--- without its lowest bit a word has none up to there
-none_left : (left k : ℕ) → Cleared left (bit_and left (left - 1)) k → (j : ℕ) → j < k + 1 → bit (bit_and left (left - 1)) j ≡ false
-none_left left k cl j lt = by_order (cases_lt j k)
-  where
-    by_order : (j < k) ⊎ (k ≤ j) → bit (bit_and left (left - 1)) j ≡ false
-    by_order (inl less) = cl.others j (omega arith) ∙ cl.none j less
-    by_order (inr more) = let e : j ≡ k = omega arith in ap (bit (bit_and left (left - 1))) e ∙ cl.here
 
 behind_it : (any : ℕ → Bool) (k n : ℕ) → k < 64 → any k ≡ true → ((j : ℕ) → n ≤ j → j < 64 → any j ≡ false) → k + 1 ≤ n
 behind_it any k n lt set none = by_order (cases_lt k n)
