@@ -230,7 +230,7 @@ class Batch:
             written = text_of(value) if is_raw and value[:1] == b'"' else compact(value) if is_compact else value
             output += (written or b"") + b"\n"
             if answer.outcome != 0 or written is None:
-                told += b"jx: %s: %s: %s\n" % (name.encode(), pointer, str(answer).encode() if answer.outcome != 0 else b"half a surrogate pair")
+                told += b"jx: %s: %s: %s\n" % (name.encode(), pointer or b"''", str(answer).encode() if answer.outcome != 0 else b"half a surrogate pair")
         words += ["-c"] * is_compact + ["-r"] * is_raw
         got = run(self.program, ["get", "--file", name, *words, *self.spelt(pointers)])
         self.held("get %s %r" % (" ".join(words), pointers), text, got, output, told == b"", told=told)

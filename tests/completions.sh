@@ -34,7 +34,7 @@ bash_completes_what_is_begun() {
     same 'bash: an option that is begun' --depth "$(offered jx check --d)"
     printf x >text.json
     same 'bash: a file' text.json "$(offered jx check --file te)"
-    for command in check explain index each keys count seq save; do
+    for command in check explain index each keys count seq texts save; do
         same "bash: a file as a word of $command" text.json "$(offered jx $command te)"
     done
     same 'bash: no file as a word of at' '' "$(offered jx at te)"

@@ -1,4 +1,5 @@
 """Writes the elements of texts of some MB by several workers: what is written and told is what one worker writes and tells, and what the text was made of."""
+import json
 import os
 import pathlib
 import random
@@ -92,9 +93,10 @@ def container(chance, maker, made, named):
     """The container's bytes, and the line of each of its elements with the offset of what stands behind it."""
     is_object = named or chance.random() < 0.4
     parts, lines, at = [b"{" if is_object else b"["], [], 1
+    alone = chance.randrange(2 * len(made))
     for number, (spelt, compact) in enumerate(made):
         front = maker.blank()
-        name = b'"%d,"' % number
+        name = b'"\\ud800"' if number == alone else (b'"\\u00e9%d\\/"' if number % 7 == 3 else b'"%d,"') % number
         if is_object:
             front += name + maker.blank() + b":" + maker.blank()
         part = front + spelt + maker.blank()
@@ -110,6 +112,12 @@ def container(chance, maker, made, named):
 def names_in(lines):
     """The names in lines of members, each on a line."""
     return b"".join(name + b"\n" for name in re.findall(rb'^\{"name":("(?:[^"\\]|\\.)*"),', lines, re.M))
+
+
+def texts_of(names):
+    """The UTF-8 of the names that stand on lines; none for one with half of a surrogate pair alone."""
+    texts = [json.loads(name) for name in names.splitlines()]
+    return [None if any(0xD800 <= ord(one) < 0xE000 for one in text) else text.encode() for text in texts]
 
 
 # A pointer, what stands in front of the container that it leads to, and what stands behind it.
@@ -147,6 +155,10 @@ def by_workers():
                 same(name, wanted, each_of(asked + ["--names"] * named, given))
                 if named:
                     same("names of " + name, (names_in(output), told, status), each_of(asked, given, "keys"))
+                    texts = texts_of(names_in(output))
+                    told_of_texts = b"" if None not in texts else b"jx: shared: %s: half a surrogate pair in a name\n" % (words[0].encode() if words else b"''")
+                    told_of_texts += told
+                    same("texts of names of " + name, (b"".join((text or b"") + b"\n" for text in texts), told_of_texts, int(told_of_texts != b"")), each_of(asked + ["-r"], given, "keys"))
                 same("number of " + name, (b"" if told else b"%d\n" % len(lines), told, status), each_of(asked, given, "count"))
 
 

@@ -7,7 +7,7 @@ help_on() { "$program" $1 "$2" 2>&1; }
 
 the_help_on_each_command_fits_and_is_complete() {
     local command flag text short long
-    for command in '' check explain index at get each keys count seq lines save split part join whole; do
+    for command in '' check explain index at get each keys count seq lines texts save split part join whole; do
         for flag in -h --help; do
             text=$(help_on "$command" $flag)
             same "jx $command $flag: no line has more than 79 columns" '' "$(printf '%s\n' "$text" | grep -E '.{80}')"

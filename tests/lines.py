@@ -1,5 +1,5 @@
-"""JSON Lines and text sequences: what the program tells of random inputs, by random settings and cuts of a pipe, is what the reader below says
-of each line or element. The reader is written from RFC 8259 and RFC 7464 alone, and Python's json has to accept what it accepts. The last line
+"""JSON Lines, text sequences and streams of texts: what the program tells of random inputs, by random settings and cuts of a pipe, is what the
+reader below says of each line, element or text. The reader is written from RFC 8259 and RFC 7464 alone, and Python's json has to accept what it accepts. The last line
 is `N passed, M failed`."""
 import json
 import os
@@ -242,6 +242,26 @@ def wanted_of_sequence(text, depth, ignores):
     return output, status
 
 
+def wanted_of_texts(text, depth):
+    """The lines for texts one behind another: behind a number or a literal stands white space, the beginning of another text, or the end."""
+    output, at = "", 0
+    while text[at:].strip(BLANKS):
+        at += len(text[at:]) - len(text[at:].lstrip(BLANKS))
+        reader = Text(text[at:], at, depth)
+        try:
+            kind = reader.value(0)
+            if kind == "scalar" and not reader.ends() and reader.peek() not in BLANKS + b'[{"':
+                reader.stop()
+        except Refused as refused:
+            told = str(refused)
+            end = len(text) if told == "truncated" else int(told.split()[-1])
+            return output + "%d..%d %s\n" % (at, end, told), 1
+        json.loads(text[at:at + reader.here].decode())
+        output += "%d..%d accepted\n" % (at, at + reader.here)
+        at += reader.here
+    return output, 0
+
+
 def told_of(words, text, chance, command="lines"):
     """What the program tells of a file, or of a pipe that gives the text by random cuts."""
     if chance.random() < 0.3:
@@ -318,6 +338,19 @@ def random_sequences():
             same("seq %s of %r" % (words, text), (output.encode(), b"", status), told_of(words, text, chance, "seq"))
         if chance.random() < 0.2:
             same("--live -q %s of %r" % (words, text), (b"", b"", status), told_of([*words, "--live", "-q"], text, chance, "seq"))
+
+
+def random_streams():
+    """Texts one behind another, of which each is told as it ends."""
+    chance = random.Random(8259)
+    for _ in range(INPUTS):
+        text = random_text(chance, chance.choice([b"", b" ", b"\n"]))
+        depth = chance.choice([512, 512, 1, 2, 0])
+        words = ["--depth", str(depth)] * (depth != 512)
+        output, status = wanted_of_texts(text, depth)
+        same("texts %s of %r" % (words, text), (output.encode(), b"", status), told_of(words, text, chance, "texts"))
+        if chance.random() < 0.2:
+            same("texts -q %s of %r" % (words, text), (b"", b"", status), told_of([*words, "-q"], text, chance, "texts"))
 
 
 def in_slices():
@@ -410,6 +443,7 @@ def by_workers():
 randomly()
 by_workers()
 random_sequences()
+random_streams()
 in_slices()
 passed_in_slices()
 sequences_in_slices()

@@ -113,7 +113,7 @@ a_message_names_its_input_and_its_pointer() {
 a_name_that_is_not_utf_8_is_the_fault_of_its_file() {
     local name=$'a\377b' fault='err: jx: a\xFFb: cannot open: Invalid argument' words
     printf 'null' >read
-    for words in check 'check -l' 'check --format gnu' 'check --format json' explain index seq 'seq --live' lines 'lines --max 1' 'lines --pass' save 'part --file' 'join --file' 'whole --to 1 --file' 'at /0 --file' 'get /0 --file' 'get --lines /0 --file' \
+    for words in check 'check -l' 'check --format gnu' 'check --format json' explain index seq 'seq --live' lines 'lines --max 1' 'lines --pass' texts save 'part --file' 'join --file' 'whole --to 1 --file' 'at /0 --file' 'get /0 --file' 'get --lines /0 --file' \
         'get -r /0 --pointers' 'at /0 --pointers' 'at /0 --file read --index' 'get /0 --file read --index' 'split --parts 1 --file read --index' 'lines --pass read --bad'; do
         # shellcheck disable=SC2086
         same "jx $words" "$(lines 'status 2' "$fault")" "$(said '[1]' $words "$name")"

@@ -17,6 +17,11 @@ def spelt(line):
     return re.sub(rb"\\x(..)", lambda byte: bytes.fromhex(byte[1].decode()), line)
 
 
+def shown_pointer(pointer):
+    """A pointer as messages show it: the one to the whole text has no byte."""
+    return shown_bytes(pointer) or b"''"
+
+
 def written(text, words, pointers):
     pathlib.Path("text").write_bytes(text)
     done = subprocess.run([PROGRAM, "get", "--file", "text", *words, "--", *pointers], capture_output=True)
@@ -31,7 +36,7 @@ def of_answers(lines, value_of):
         if found:
             output += value_of(found[1], int(found[2]), int(found[3]))
         else:
-            told += b"jx: text: %s: %s\n" % (shown_bytes(pointer), answer)
+            told += b"jx: text: %s: %s\n" % (shown_pointer(pointer), answer)
         output += b"\n"
     return output, told, int(told != b"")
 
@@ -155,7 +160,7 @@ def of_raw_values(asked, text):
             try:
                 output += value.encode()
             except UnicodeEncodeError:
-                told += b"jx: text: %s: half a surrogate pair\n" % shown_bytes(pointer)
+                told += b"jx: text: %s: half a surrogate pair\n" % shown_pointer(pointer)
         else:
             output += compact
         output += b"\n"
@@ -254,7 +259,7 @@ def elements_of_texts(spelling, chance, count):
         lines = [compact + b"\n" for pointer, _, compact, _ in made.nodes if pointer.count(b"/") == 1]
         pieces = chance.choice([1, 2, 3, 7, 50, 65536])
         is_container = made.text.strip()[:1] in (b"[", b"{")
-        told = b"" if is_container else b"jx: -: : not a container at token 0\n"
+        told = b"" if is_container else b"jx: -: '': not a container at token 0\n"
         same("elements of random text %d" % number, (b"".join(lines), told, int(not is_container)), each_of(made.text, pieces))
         if not is_container:
             continue
@@ -356,7 +361,7 @@ def text_with_names(chance, depth=0):
         return chance.choice([b"1", b"-2.5e3", b"null", b'"a"', b'"{\\"b\\": [1, 2]}"', b'"\\\\"', b"[]", b"{}", b"[ ]"])
     parts = []
     for _ in range(chance.randrange(4)):
-        name = chance.choice([b'"a"', b'"a"', b'"b"', b'"\\u0061"', b'"\\u0062"', b'"a/b~c"', b'"a\\/b\\u007ec"', b'""', b'"\xc3\xa9"', b'"\\u00E9"', b'"aa"', b'"0"', b'"a\\""'])
+        name = chance.choice([b'"a"', b'"a"', b'"b"', b'"\\u0061"', b'"\\u0062"', b'"a/b~c"', b'"a\\/b\\u007ec"', b'""', b'"\xc3\xa9"', b'"\\u00E9"', b'"aa"', b'"0"', b'"a\\""', b'"\\ud83d\\ude00"', b'"a\\n\\udc00"'])
         value = text_with_names(chance, depth + 1)
         parts.append(blank() + (name + blank() + b":" + blank() if kind == "object" else b"") + value + blank())
     inside = b",".join(parts) or blank()
@@ -389,12 +394,18 @@ def elements_by_pointers(named=False):
         node, words = reached(root, tokens, named)
         lines = lines_of(node, named)
         pieces = chance.choice([1, 2, 3, 7, 65536])
-        told = b"jx: -: %s: %s\n" % (shown_bytes(pointer.encode()), words) if words else b""
+        told = b"jx: -: %s: %s\n" % (shown_pointer(pointer.encode()), words) if words else b""
         asked = ["--names"] * named + ([] if pointer == "" and chance.randrange(2) else [pointer])
         same("elements at %r of %r" % (pointer, text), (b"".join(line for line, _ in lines), told, int(told != b"")), each_of(text, pieces, asked))
         if named:
-            names = b"".join(spelt + b"\n" for spelt in node.spelt) if lines else b""
+            spelt = node.spelt if lines else []
+            names = b"".join(name + b"\n" for name in spelt)
             same("names at %r of %r" % (pointer, text), (names, told, int(told != b"")), each_of(text, pieces, [pointer], "keys"))
+            texts = [json.loads(name) for name in spelt]
+            alone = [text_of_name for text_of_name in texts if any(0xD800 <= ord(one) < 0xE000 for one in text_of_name)]
+            texts = b"".join((b"" if one in alone else one.encode()) + b"\n" for one in texts)
+            told = (b"jx: -: %s: half a surrogate pair in a name\n" % shown_pointer(pointer.encode()) if alone else b"") + told
+            same("texts of names at %r of %r" % (pointer, text), (texts, told, int(told != b"")), each_of(text, pieces, [pointer, "--raw"], "keys"))
         else:
             number = b"" if told else b"%d\n" % len(lines)
             same("number at %r of %r" % (pointer, text), (number, told, int(told != b"")), each_of(text, pieces, [pointer], "count"))

@@ -172,7 +172,7 @@ each_element_has_its_line() {
     same 'of an object' "$(lines 'status 0' 'out: 1' 'out: [{}]')" "$(said '{"a" : 1 ,"[,:" : [ { } ] }' each)"
     same 'of none' 'status 0' "$(said '[ ]' each)"
     same 'of an object without members' 'status 0' "$(said '{ }' each)"
-    same 'of a scalar' "$(lines 'status 1' 'err: jx: -: : not a container at token 0')" "$(said ' "[1,2]" ' each)"
+    same 'of a scalar' "$(lines 'status 1' "err: jx: -: '': not a container at token 0")" "$(said ' "[1,2]" ' each)"
     same 'before a fault' "$(lines 'status 1' 'out: 1' 'out: 2' 'err: jx: -: stopped at 6')" "$(said '[1,2,3x' each)"
     same 'a comma is needed' "$(lines 'status 1' 'out: 1' 'err: jx: -: truncated')" "$(said '[1,2 ' each)"
     same 'behind the root' "$(lines 'status 1' 'out: 1' 'err: jx: -: stopped at 4')" "$(said '[1] ,2]' each)"
@@ -185,8 +185,8 @@ each_element_has_its_line() {
         "$(said '{ "a b" : [ 1,2 ],"\\u0061\\"":{ } }' each --names)"
     same 'with names that come again' "$(lines 'status 0' 'out: {"name":"a","value":1}' 'out: {"name":"a","value":2}')" "$(said '{"a":1,"a":2}' each --names)"
     same 'with names, of an object without members' 'status 0' "$(said '{ }' each --names)"
-    same 'with names, of an array' "$(lines 'status 1' 'err: jx: -: : not an object at token 0')" "$(said '[1]' each --names)"
-    same 'with names, of a scalar' "$(lines 'status 1' 'err: jx: -: : not an object at token 0')" "$(said '1' each --names)"
+    same 'with names, of an array' "$(lines 'status 1' "err: jx: -: '': not an object at token 0")" "$(said '[1]' each --names)"
+    same 'with names, of a scalar' "$(lines 'status 1' "err: jx: -: '': not an object at token 0")" "$(said '1' each --names)"
     same 'with names, before the end' "$(lines 'status 1' 'out: {"name":"a","value":1}' 'err: jx: -: truncated')" "$(said '{"a":1,"b":2' each --names)"
     same 'with names, behind a comma' "$(lines 'status 1' 'out: {"name":"a","value":1}' 'err: jx: -: stopped at 7')" "$(said '{"a":1,2' each --names)"
     printf '[1,2]' >elements
@@ -231,8 +231,8 @@ keys | { "a b" : [1 ,{"c":2}],"\\u0061\\"," :{ },"":"x"} | status 0 | out: "a b"
 keys | {"a":1,"b":2,"a":3} | status 0 | out: "a" | out: "b" | out: "a"
 keys | { } | status 0
 keys | {"\\ud800":1} | status 0 | out: "\ud800"
-keys | [1] | status 1 | err: jx: -: : not an object at token 0
-keys | "{}" | status 1 | err: jx: -: : not an object at token 0
+keys | [1] | status 1 | err: jx: -: '': not an object at token 0
+keys | "{}" | status 1 | err: jx: -: '': not an object at token 0
 keys | {"a":1,"b":2 | status 1 | out: "a" | err: jx: -: truncated
 keys | {"a":1,2 | status 1 | out: "a" | err: jx: -: stopped at 7
 keys | {"a":1} x | status 1 | out: "a" | err: jx: -: stopped at 8
@@ -244,14 +244,21 @@ keys /1/o | [{"o":{"x":1}},{"o":{"y":1}}] | status 0 | out: "y"
 keys /a | {"a":[1]} | status 1 | err: jx: -: /a: not an object at token 1
 keys /b | {"a":[1]} | status 1 | err: jx: -: /b: no such member at token 0
 keys /a | {"a":{"x":1},"a":{"y":2}} | status 1 | out: "x" | err: jx: -: /a: name repeated at token 0
+keys -r | { "a b" : [1 ,{"c":2}],"\\u0061\\"," :{ },"":"x","\\ud83d\\ude00\\/":0} | status 0 | out: a b | out: a", | out: | out: 😀/
+keys --raw /o | {"o":{"a\\nb":1,"a":2}} | status 0 | out: a | out: b | out: a
+keys -r | {"\\ud800":1,"a":2,"x\\udc00y":3} | status 1 | out: | out: a | out: | err: jx: -: '': half a surrogate pair in a name
+keys -r /o | {"o":{"\\ud800":1},"o":{}} | status 1 | out: | err: jx: -: /o: half a surrogate pair in a name | err: jx: -: /o: name repeated at token 0
+keys -r | {"\\ud800":1,"b":2 | status 1 | out: | err: jx: -: '': half a surrogate pair in a name | err: jx: -: truncated
+keys -r | [1] | status 1 | err: jx: -: '': not an object at token 0
+keys -r | {} | status 0
 keys x | {} | status 2 | err: jx: x: no slash: the first word is a pointer, and FILE the second
 count | [ ] | status 0 | out: 0
 count | { } | status 0 | out: 0
 count | [1,[2,3],{"a":4},"5,6" , "" ] | status 0 | out: 5
 count | { "a":1,"b":[1,2],"a" : {"c":3}} | status 0 | out: 3
 count | [[],[],[]] | status 0 | out: 3
-count | "[1,2]" | status 1 | err: jx: -: : not a container at token 0
-count | 7 | status 1 | err: jx: -: : not a container at token 0
+count | "[1,2]" | status 1 | err: jx: -: '': not a container at token 0
+count | 7 | status 1 | err: jx: -: '': not a container at token 0
 count | [1,2 | status 1 | err: jx: -: truncated
 count | [1,2] x | status 1 | err: jx: -: stopped at 6
 count --depth 1 | [1,[]] | status 1 | err: jx: -: too deep at 3
@@ -269,7 +276,7 @@ names_and_counts_are_those_of_the_container() {
     local words input told
     while IFS='|' read -r words input told; do
         # shellcheck disable=SC2086
-        same "jx $words of $input" "$(sed 's/^ //; s/ | /\n/g' <<<"$told")" "$(input=${input# }; said "${input% }" ${words})"
+        same "jx $words of $input" "$(sed 's/^ //; s/ | /\n/g; s/^out:$/out: /Mg' <<<"$told")" "$(input=${input# }; said "${input% }" ${words})"
     done < <(names_and_counts)
     printf '{"o":{"b":1,"a":[1,2,3]}}' >object
     same 'names in a file' "$(lines '"b"' '"a"')" "$("$program" keys /o object)"
@@ -281,6 +288,7 @@ names_and_counts_are_those_of_the_container() {
     for words in 1 4; do
         "$program" keys --workers $words --file members >got
         same "many names, by $words workers" same "$(cmp -s wanted got && echo same)"
+        same "the texts of many names, by $words workers" same "$("$program" keys -r --workers $words --file members | cmp -s <(tr -d '"' <wanted) && echo same)"
         same "many members, by $words workers" 300000 "$("$program" count --workers $words --file members)"
     done
     if [ -w /dev/full ]; then

@@ -3,7 +3,8 @@ ghost use Rattle.std.specs.Prelude.{IfOk};
 ghost use Rattle.jx_command.specs.Orders.{HasPieces};
 
 use crate::fault::Fault;
-use jx_command::{ArgFault, ByLine, Order, ValuesOrder, command_of};
+use crate::line_values::none_of;
+use jx_command::{ArgFault, Order, command_of};
 use jx_task::Task;
 use std::alloc::AllocError;
 use std::env::{Env, FillError};
@@ -61,19 +62,6 @@ pub fn is_marked(word: &str) -> bool {
     word.contains(NOT_TEXT)
 }
 
-/// The word for no value that the arguments have, if they have one.
-fn none_of<'a>(values: &ValuesOrder<'a>) -> &'a str {
-    match values.by_line {
-        Some(
-            ByLine {
-                table: Some(table),
-                ..
-            },
-        ) => table.none,
-        _ => "",
-    }
-}
-
 /// Whether a pointer or the word for no value that the arguments have is not UTF-8.
 fn has_marked_word(order: &Order<'_>) -> bool {
     match order {
@@ -83,11 +71,16 @@ fn has_marked_word(order: &Order<'_>) -> bool {
         },
         Order::Values(values) => {
             let pointers = &values.task.pointers;
-            is_marked(none_of(values)) || pointers.iter().any(|word| is_marked(word.as_str()))
+            let none = match values.by_line {
+                Some(by_line) => none_of(by_line.table),
+                None => "",
+            };
+            is_marked(none) || pointers.iter().any(|word| is_marked(word.as_str()))
         }
         Order::Each(each) => is_marked(each.pointer),
         Order::Split(split) => is_marked(split.pointer),
-        Order::Parts(_) | Order::Lines(_) | Order::Live(_) | Order::Save(_) => false,
+        Order::Parts(_) | Order::Lines(_) | Order::Live(_) | Order::Texts(_) | Order::Save(_) =>
+            false,
     }
 }
 

@@ -13,7 +13,7 @@ use jx_each::LineContent;
 use jx_ends::{End, Exit, ReportFault, Sink, Source};
 use jx_files::Status;
 use jx_index::Pointer;
-use jx_values::{report_count, report_elements};
+use jx_values::{report_count, report_elements, report_name_texts};
 use std::sync::Wait;
 use std::thread::Threads;
 
@@ -43,12 +43,23 @@ fn report<R: Threads + Wait + Sync, S: Source, W: Sink, E: Sink>(
     requires reader { S.has_failed reader.old ≡ false }
     requires writer { W.has_failed writer.old ≡ false }
 {
+    let settings = &order.settings;
     let content = match order.form {
         EachForm::Values => LineContent::Alone,
         EachForm::Members => LineContent::Named,
         EachForm::Names => LineContent::NameAlone,
+        EachForm::NameTexts => {
+            return report_name_texts(
+                crew,
+                reader,
+                writer,
+                errors,
+                settings,
+                order.pointer,
+                order.piece,
+            );
+        }
         EachForm::Count => {
-            let settings = &order.settings;
             return report_count(
                 crew,
                 reader,
@@ -65,7 +76,7 @@ fn report<R: Threads + Wait + Sync, S: Source, W: Sink, E: Sink>(
         reader,
         writer,
         errors,
-        &order.settings,
+        settings,
         content,
         order.pointer,
         order.piece,

@@ -1,4 +1,4 @@
-// Lines and elements that are to be JSON texts, each told while the input is read.
+// Lines, elements and texts of streams, each told while the input is read.
 ghost use Rattle.std.specs.Prelude.{◌≡◌, ◌≤◌, false};
 
 use crate::fault::Fault;
@@ -15,6 +15,7 @@ use jx_files::{FileFault, Status};
 use jx_ndjson_report::{
     BlankRule, ElementsTask, LineForm, LinesTask, report_first_lines, report_lines, report_sequence,
 };
+use jx_texts::{TextsTask, report_texts};
 use jx_words::shown_name;
 use std::sync::Wait;
 use std::thread::Threads;
@@ -26,6 +27,8 @@ enum Asked<'a> {
     Lines(LinesOrder<'a>),
     /// The elements of a text sequence.
     Elements(LiveOrder<'a>),
+    /// The texts of a stream.
+    Texts(LiveOrder<'a>),
 }
 
 /// The same with what stands in front of each line that is written.
@@ -36,13 +39,14 @@ enum Task<'a> {
     First(LinesTask, usize),
     Passed(LinesTask, PassOrder<'a>),
     Elements(ElementsTask),
+    Texts(TextsTask),
 }
 
 /// The format of the report.
 fn way_of(asked: &Asked<'_>) -> Told {
     match asked {
         Asked::Lines(order) => order.told,
-        Asked::Elements(_) => Told::Lines,
+        Asked::Elements(_) | Asked::Texts(_) => Told::Lines,
     }
 }
 
@@ -95,6 +99,14 @@ fn elements_task(order: &LiveOrder<'_>, front: Vec<u8>) -> ElementsTask {
     }
 }
 
+fn texts_task(order: &LiveOrder<'_>, front: Vec<u8>) -> TextsTask {
+    TextsTask {
+        depth: order.settings.depth,
+        front,
+        is_quiet: order.is_quiet,
+    }
+}
+
 fn task_of<'a>(asked: &Asked<'a>, front: Vec<u8>) -> Task<'a> {
     match asked {
         Asked::Lines(order) => match (order.pass, order.most) {
@@ -103,6 +115,7 @@ fn task_of<'a>(asked: &Asked<'a>, front: Vec<u8>) -> Task<'a> {
             (None, None) => Task::Lines(lines_task(order, front)),
         },
         Asked::Elements(order) => Task::Elements(elements_task(order, front)),
+        Asked::Texts(order) => Task::Texts(texts_task(order, front)),
     }
 }
 
@@ -128,6 +141,7 @@ fn tell_from<R: Threads + Wait + Sync>(
         }
         Task::Passed(task, pass) => return pass_input(rt, input, &mut reader, writer, task, *pass),
         Task::Elements(task) => report_sequence(crew, &mut reader, writer, task),
+        Task::Texts(task) => report_texts(crew.alloc, &mut reader, writer, task),
     };
     match told {
         Ok(exit) => Ok(Status::of_exit(exit)),
@@ -281,7 +295,7 @@ fn tell_one<R: Threads + Wait + Sync>(
 fn inputs_of<'o, 'a>(asked: &'o Asked<'a>) -> &'o Inputs<'a> {
     match asked {
         Asked::Lines(order) => &order.inputs,
-        Asked::Elements(order) => &order.inputs,
+        Asked::Elements(order) | Asked::Texts(order) => &order.inputs,
     }
 }
 
@@ -324,11 +338,11 @@ pub fn tell_lines_of<R: Threads + Wait + Sync>(
     tell_inputs(rt, &crew, &Asked::Lines(order), piece)
 }
 
-/// Reads what an order names, and reports the elements. One worker reads.
-pub fn tell_elements_of<R: Threads + Wait + Sync>(
+/// Reads what is asked for by one worker.
+fn tell_alone<R: Threads + Wait + Sync>(
     rt: &HostRuntime,
     threads: &R,
-    order: LiveOrder<'_>,
+    asked: &Asked<'_>,
 ) -> Result<Status, Fault> {
     let crew = Crew {
         rt: threads,
@@ -336,5 +350,23 @@ pub fn tell_elements_of<R: Threads + Wait + Sync>(
         workers: Workers::new(1).unwrap(),
         gate: &OpenGate,
     };
-    tell_inputs(rt, &crew, &Asked::Elements(order), 1)
+    tell_inputs(rt, &crew, asked, 1)
+}
+
+/// Reads what an order names, and reports the elements. One worker reads.
+pub fn tell_elements_of<R: Threads + Wait + Sync>(
+    rt: &HostRuntime,
+    threads: &R,
+    order: LiveOrder<'_>,
+) -> Result<Status, Fault> {
+    tell_alone(rt, threads, &Asked::Elements(order))
+}
+
+/// Reads what an order names, and reports the texts. One worker reads.
+pub fn tell_texts_of<R: Threads + Wait + Sync>(
+    rt: &HostRuntime,
+    threads: &R,
+    order: LiveOrder<'_>,
+) -> Result<Status, Fault> {
+    tell_alone(rt, threads, &Asked::Texts(order))
 }

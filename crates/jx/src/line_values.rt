@@ -67,7 +67,7 @@ fn form_of(table: Option<TableOrder<'_>>) -> RowForm {
 }
 
 /// The text that is written where there is no value.
-fn none_of<'a>(table: Option<TableOrder<'a>>) -> &'a str {
+pub fn none_of<'a>(table: Option<TableOrder<'a>>) -> &'a str {
     match table {
         None => "",
         Some(table) => table.none,

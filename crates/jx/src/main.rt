@@ -1,5 +1,5 @@
 // The program `jx`. It checks JSON texts, lists their values, finds or writes what pointers name, writes elements, or explains
-// why a text is refused. Or it checks the elements of sequences, lines, or a text that stands in several parts, or saves the index
+// why a text is refused. Or it checks the elements of sequences, lines, texts one behind another, or a text that stands in several parts, or saves the index
 // of a text.
 #![tactic(auto)]
 
@@ -35,7 +35,7 @@ use arguments::{arguments, order_by};
 use elements::write_elements_of;
 use explaining::{explain_inputs, form_for};
 use fault::Fault;
-use judged_lines::{tell_elements_of, tell_lines_of};
+use judged_lines::{tell_elements_of, tell_lines_of, tell_texts_of};
 use jx_command::{Input, Inputs, Order, Request, Told};
 use jx_explain::Form;
 use jx_files::Status;
@@ -125,6 +125,7 @@ fn answer<R: Threads + Wait + Sync>(rt: &HostRuntime, threads: &R) -> Result<Sta
         Order::Each(order) => write_elements_of(rt, threads, &order),
         Order::Lines(order) => tell_lines_of(rt, threads, order),
         Order::Live(order) => tell_elements_of(rt, threads, order),
+        Order::Texts(order) => tell_texts_of(rt, threads, order),
         Order::Save(order) => save_index(rt, &order),
         Order::Split(order) => write_parts(rt, &order),
     }

@@ -5,7 +5,7 @@ ghost use Rattle.jx_command.specs.Orders.{HasPieces};
 use crate::arg_fault::ArgFault;
 use crate::called::Called;
 use crate::command_rows::called_by;
-use crate::each_arguments::{each_form_of, each_order_from};
+use crate::each_arguments::{each_form_of, each_order_from, keys_form_of};
 use crate::grammar::grammar;
 use crate::inputs::{Input, Inputs, inputs_of, named_inputs_of, reads_standard_twice};
 use crate::lines_arguments::lines_order_from;
@@ -287,9 +287,10 @@ fn order_from<'a>(
         Called::Seq => sequence_order(alloc, workers, options),
         Called::Get => values_order(alloc, workers, options),
         Called::Each => Ok(elements_order(each_form_of(options), workers, options)),
-        Called::Keys => Ok(elements_order(EachForm::Names, workers, options)),
+        Called::Keys => Ok(elements_order(keys_form_of(options), workers, options)),
         Called::Count => Ok(elements_order(EachForm::Count, workers, options)),
         Called::Lines => Ok(Order::Lines(lines_order_from(alloc, workers, options)?)),
+        Called::Texts => Ok(Order::Texts(live_order_from(alloc, options)?)),
         Called::Save => Ok(Order::Save(save_order_from(options)?)),
         Called::Split => Ok(Order::Split(split_order_from(options))),
         Called::Part => Ok(Order::Parts(part_order_from(options))),

@@ -12,6 +12,7 @@ pub(crate) enum Called {
     Count,
     Seq,
     Lines,
+    Texts,
     Save,
     Split,
     Part,

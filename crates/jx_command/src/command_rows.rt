@@ -157,6 +157,11 @@ const KEYS: CommandRow = CommandRow {
     args: &[
         option::CONTAINER,
         option::ONE_FILE,
+        ArgRow {
+            help: help::RAW_NAMES,
+            long_help: help::LONG_RAW_NAMES,
+            ..option::RAW
+        },
         option::FILE,
         option::DEPTH,
         option::EACH_WORKERS,
@@ -240,6 +245,19 @@ const LINES: CommandRow = CommandRow {
             long_help: help::LONG_FORMAT_OF_LINES,
             ..option::FORMAT
         },
+        option::FILES,
+    ],
+};
+
+const TEXTS: CommandRow = CommandRow {
+    name: "texts",
+    about: help::TEXTS,
+    after: help::AFTER_TEXTS,
+    args: &[
+        option::FILE,
+        option::DEPTH,
+        option::WITH_FILENAME,
+        option::QUIET,
         option::FILES,
     ],
 };
@@ -339,6 +357,10 @@ fn lines_row() -> CommandRow {
     LINES
 }
 
+fn texts_row() -> CommandRow {
+    TEXTS
+}
+
 fn save_row() -> CommandRow {
     SAVE
 }
@@ -372,6 +394,7 @@ pub(crate) fn row_of(called: Called) -> CommandRow {
         Called::Count => count_row(),
         Called::Seq => seq_row(),
         Called::Lines => lines_row(),
+        Called::Texts => texts_row(),
         Called::Save => save_row(),
         Called::Split => split_row(),
         Called::Part => part_row(),
@@ -381,7 +404,7 @@ pub(crate) fn row_of(called: Called) -> CommandRow {
 }
 
 /// All commands, in the order of the help.
-pub(crate) const ALL: [Called; 15] = [
+pub(crate) const ALL: [Called; 16] = [
     Called::Check,
     Called::Explain,
     Called::Index,
@@ -392,6 +415,7 @@ pub(crate) const ALL: [Called; 15] = [
     Called::Count,
     Called::Seq,
     Called::Lines,
+    Called::Texts,
     Called::Save,
     Called::Split,
     Called::Part,

@@ -17,6 +17,15 @@ pub(crate) fn each_form_of(options: &ArgMatches<'_>) -> EachForm {
     }
 }
 
+/// The form of lines by the options of `keys`.
+pub(crate) fn keys_form_of(options: &ArgMatches<'_>) -> EachForm {
+    if options.get_flag("raw") {
+        EachForm::NameTexts
+    } else {
+        EachForm::Names
+    }
+}
+
 /// The order of such a command by its options. The grammar has a number for each option that the words leave out, so that
 /// what stands here where there is none is never met.
 pub(crate) fn each_order_from<'a>(

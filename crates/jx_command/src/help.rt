@@ -60,6 +60,8 @@ pub const SEQ: &str = "Report which elements of a JSON text sequence are JSON te
 
 pub const LINES: &str = "Report which lines of JSON Lines are not JSON texts";
 
+pub const TEXTS: &str = "Report JSON texts that stand one behind another";
+
 pub const SAVE: &str = "Write the index of a JSON text, to keep beside it";
 
 pub const SPLIT: &str = "Print where to cut a container into parts, by an index";
@@ -343,10 +345,18 @@ or quotation mark.";
 
 pub const RAW: &str = "Write the text that a string stands for";
 
+pub const RAW_NAMES: &str = "Write the text that a name stands for";
+
+pub const LONG_RAW_NAMES: &str = "Write the text that a name stands for, in UTF-8, without quotation
+marks and escapes (RFC 8259, section 7). A name with half of a
+surrogate pair alone has no UTF-8: its line is empty. A text with
+line ends takes several lines.";
+
 pub const LONG_RAW: &str = "Write the text that a string stands for, in UTF-8, without quotation
 marks and escapes (RFC 8259, section 7). Other values are written as
 without this option. A string with half of a surrogate pair alone has
-no UTF-8: its line is empty.";
+no UTF-8: its line is empty. A text with line ends takes several
+lines.";
 
 pub const POINTER: &str = "A JSON Pointer (RFC 6901), as it is";
 
@@ -558,19 +568,20 @@ Examples:
 pub const AFTER_KEYS: &str =
     "Output, a line for each member of the object that POINTER leads to, in order:
 its name as the string that stands in the text, with its quotation marks and
-escapes. A repeated name comes each time.
+escapes, or with --raw the text of that. A repeated name comes each time.
 
 A line is written once the comma or the bracket after the member was read,
 also where the text is refused further on. The text is read to its end, and
 one name is kept in memory.
 
-Reports are those of 'jx each --names'.
+Reports are those of 'jx each --names', and with --raw before them:
+  jx: FILE: POINTER: half a surrogate pair in a name  once, for all such names
 
 Exit status: 0 all names are written, 1 refused or no object, 2 no answer.
 
 Examples:
   jx keys /users dump.json
-  jx keys '' dump.json | sort | uniq -d";
+  jx keys -r '' dump.json | sort | uniq -d";
 
 pub const AFTER_COUNT: &str =
     "Output, a line with how many elements the array has that POINTER leads to, or
@@ -631,6 +642,30 @@ Examples:
   tail -n +1 -F log.jsonl | jx lines
   jx lines --skip-blank --quiet log.jsonl && echo whole
   tail -n +1 -F log.jsonl | jx lines --pass --bad refused.txt | ship";
+
+pub const AFTER_TEXTS: &str =
+    "Input, JSON texts one behind another, as jq writes them: {\"a\":1}{\"a\":2} or
+1 2. White space may stand between them. Behind a number, true, false or null
+stands white space, [, {, \" or the end of the input, so that 01 is refused.
+
+Output, a line for each text, its span without white space around it, and then:
+  accepted            it is a JSON text
+  stopped at K        as by 'jx check'; K counts from the start of the input
+  truncated           as by 'jx check'
+  too deep at K       as by 'jx check'; K counts from the start of the input
+A text that is not accepted is the last one: its line ends the report.
+
+A text is reported once its last byte is read, before more input is waited for;
+a number, true, false or null once the byte behind it is. What was written
+stays, also where a read fails later. One read is kept in memory.
+
+Exit status: 0 all accepted, 1 one is not, 2 no answer; of several files the
+greatest. An input without a text has no line, and its status is 0.
+
+Examples:
+  jq . dump.json | jx texts
+  kubectl get pods --watch -o json | jx texts
+  jx texts --quiet texts.json && echo whole";
 
 pub const AFTER_SAVE: &str =
     "Output, the index of the text, to be kept beside it: of each chunk of the

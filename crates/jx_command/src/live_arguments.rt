@@ -1,4 +1,4 @@
-// The arguments of the subcommand that judges elements, where they are reported as they end.
+// The arguments of the subcommands that judge elements or texts, where they are reported as they end.
 use crate::arg_fault::ArgFault;
 use crate::arguments::{inputs_named, mark_of, words_of};
 use crate::options::depth_of;

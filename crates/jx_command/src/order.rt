@@ -23,6 +23,8 @@ pub enum Order<'a> {
     Lines(LinesOrder<'a>),
     /// The elements of sequences, each told as it ends.
     Live(LiveOrder<'a>),
+    /// The texts of streams, each told as it ends.
+    Texts(LiveOrder<'a>),
     /// The index of a text, which is written.
     Save(SaveOrder<'a>),
     /// The borders of the parts of a container.
@@ -104,8 +106,10 @@ pub enum EachForm {
     Values,
     /// The name and the value of each member.
     Members,
-    /// The name of each member.
+    /// The name of each member, as it is written.
     Names,
+    /// The text that the name of each member stands for.
+    NameTexts,
     /// How many elements or members there are.
     Count,
 }
@@ -159,12 +163,12 @@ pub struct PassOrder<'a> {
     pub report: Option<&'a str>,
 }
 
-/// Elements of text sequences, which are reported while they are read.
+/// Elements of text sequences, or texts of streams, which are reported while they are read.
 #[derive(Debug, Drop)]
 pub struct LiveOrder<'a> {
     /// The inputs that are read.
     pub inputs: Inputs<'a>,
-    /// How each element is read.
+    /// How each element or text is read.
     pub settings: Settings,
     /// Whether nothing is written.
     pub is_quiet: bool,

@@ -17,7 +17,7 @@ use Rattle.jx_ndjson_report.specs.declared.task.LinesTask.{LinesTask}
 use Rattle.jx_ndjson_report.specs.Output.{LinesOutput, is_good}
 use Rattle.jx_ndjson_report.specs.Passed.{IsPassDue, PassOutput, passed_line, passed_lines}
 use Rattle.jx_ndjson_report.specs.inside.LinePasser.{HasPassed, LinePasserValue, kept_of, passed_bytes}
-use Rattle.jx_ndjson_report.specs.inside.LineTeller.{HasTakenAs}
+use Rattle.jx_ndjson_report.specs.inside.LineTeller.{HasTakenAs, HasTakenTexts}
 use Rattle.jx_ndjson_report.proofs.Takes.{gives_as, taken_none_as}
 
 -- ---- the bytes of one line
@@ -43,7 +43,7 @@ last_there bytes before kept a b is from to =
     ∙ sym (append-nil kept)
 
 -- a line that ended passes with its bytes, whatever follows
-line_there : (before mid more : List ℕ) (j : JudgedLine) → length before ≡ j.span.start → suc j.span.end ≡ j.span.start + length mid → passed_line (before ++ (mid ++ more)) j ≡ cond (is_good j.verdict) mid []
+pub line_there : (before mid more : List ℕ) (j : JudgedLine) → length before ≡ j.span.start → suc j.span.end ≡ j.span.start + length mid → passed_line (before ++ (mid ++ more)) j ≡ cond (is_good j.verdict) mid []
 line_there before mid more j from to = ap (λ (xs : List ℕ). cond (is_good j.verdict) xs []) (slice_there before mid more j.span.start (suc j.span.end) from to)
 
 one_line : (input : List ℕ) (j : JudgedLine) → passed_lines input (j ∷ []) ≡ passed_line input j
@@ -154,6 +154,75 @@ passes_step task bytes chunk given said line old new h takes ready kept count go
           kept_is = all ∙ ap (λ (xs : List ℕ). h.before ++ xs) (sym same);
           start_is = h.start_is ∙ sym stays;
           count_is = omega (arith, long, c, stays);
+          passes = passes;
+        }
+
+-- lines in front of a slice that are texts
+pub passes_texts : (task : LinesTask) (bytes chunk given said : List ℕ) (old new : LinePasserValue) (h : HasPassed task bytes given said old)
+    → HasTakenTexts task bytes said chunk h.taken.answers old.teller.lines.reader.start new.teller
+    → new.ready ≡ old.ready ++ chunk
+    → new.kept ≡ old.kept
+    → new.teller.lines.reader.start ≡ old.teller.lines.reader.start + length chunk
+    → new.teller.lines.reader.count ≡ old.teller.lines.reader.count
+    → (0 < length chunk → old.teller.lines.reader.count ≡ 0)
+    → HasPassed task (bytes ++ chunk) given said new
+passes_texts task bytes chunk given said old new h takes ready kept start count between = pick chunk refl
+  where
+    nil : (xs : List ℕ) → length xs ≡ 0 → xs ≡ []
+    nil [] e = refl
+    nil (x ∷ xs) e = absurd (omega (arith, e))
+
+    -- of the line that goes on no byte was read, where there are such lines
+    none : 0 < length chunk → old.kept ≡ []
+    none some = let a = h.count_is in let b = between some in nil old.kept (omega (arith, a, b))
+
+    -- so they stand behind what was read
+    from : 0 < length chunk → length bytes ≡ old.teller.lines.reader.start
+    from some = ap length (h.kept_is ∙ ap (λ (xs : List ℕ). h.before ++ xs) (none some) ∙ append-nil h.before) ∙ h.start_is
+
+    more_passes : (xs : List ℕ) → chunk ≡ xs → (more : List ℕ) → passed_lines (bytes ++ (chunk ++ more)) takes.texts ≡ chunk
+    more_passes [] e more =
+        ap (λ (xs : List ℕ). passed_lines (bytes ++ (xs ++ more)) takes.texts) e
+        ∙ ap (λ (xs : List ℕ). passed_lines (xs ++ more) takes.texts) h.kept_is
+        ∙ ap (λ (xs : List ℕ). passed_lines xs takes.texts) (append_assoc h.before old.kept more)
+        ∙ ap (λ (xs : List ℕ). passed_lines (h.before ++ (xs ++ (old.kept ++ more))) takes.texts) (sym e)
+        ∙ takes.pass h.before (old.kept ++ more) h.start_is
+    more_passes (x ∷ xs) e more = takes.pass bytes more (from (let a : length chunk ≡ suc (length xs) = ap length e in omega (arith, a)))
+
+    passes : (more : List ℕ) → given ++ new.ready ≡ passed_lines ((bytes ++ chunk) ++ more) takes.taken.0.answers
+    passes more =
+        ap (λ (xs : List ℕ). given ++ xs) ready
+        ∙ sym (append_assoc given old.ready chunk)
+        ∙ ap (λ (xs : List ℕ). xs ++ chunk) (h.passes (chunk ++ more))
+        ∙ ap (λ (xs : List ℕ). passed_lines (bytes ++ (chunk ++ more)) h.taken.answers ++ xs) (sym (more_passes chunk refl more))
+        ∙ sym (flat_map-append (passed_line (bytes ++ (chunk ++ more))) h.taken.answers takes.texts)
+        ∙ ap (λ (xs : List ℕ). passed_lines xs (h.taken.answers ++ takes.texts)) (sym (append_assoc bytes chunk more))
+        ∙ ap (passed_lines ((bytes ++ chunk) ++ more)) (sym takes.taken.1)
+
+    pick : (xs : List ℕ) → chunk ≡ xs → HasPassed task (bytes ++ chunk) given said new
+    pick [] e =
+        let n : length chunk ≡ 0 = ap length e in
+        let s = start in
+        let a = h.start_is in
+        record {
+          taken = takes.taken.0;
+          before = h.before;
+          kept_is = ap (λ (xs : List ℕ). bytes ++ xs) e ∙ append-nil bytes ∙ h.kept_is ∙ ap (λ (xs : List ℕ). h.before ++ xs) (sym kept);
+          start_is = omega (arith, a, s, n);
+          count_is = ap length kept ∙ h.count_is ∙ sym count;
+          passes = passes;
+        }
+    pick (x ∷ xs) e =
+        let some : 0 < length chunk = let a : length chunk ≡ suc (length xs) = ap length e in omega (arith, a) in
+        let a : length (bytes ++ chunk) ≡ length bytes + length chunk = length-append bytes chunk in
+        let b = from some in
+        let s = start in
+        record {
+          taken = takes.taken.0;
+          before = bytes ++ chunk;
+          kept_is = sym (append-nil (bytes ++ chunk)) ∙ ap (λ (xs : List ℕ). (bytes ++ chunk) ++ xs) (sym (kept ∙ none some));
+          start_is = omega (arith, a, b, s);
+          count_is = ap length kept ∙ h.count_is ∙ sym count;
           passes = passes;
         }
 

@@ -22,7 +22,7 @@ use Rattle.jx_words.specs.Verdicts.{shown_output}
 use Rattle.jx_ndjson_report.specs.declared.task.LinesTask.{LinesTask}
 use Rattle.jx_ndjson_report.specs.Output.{IsDue, LinesOutput, bad_lines, bad_of, good_of, is_bad, is_good, total_words}
 use Rattle.jx_ndjson_report.specs.inside.LineSteps.{bad_line, exit_by}
-use Rattle.jx_ndjson_report.specs.inside.LineTeller.{HasTaken, HasTakenAs, LineTellerValue}
+use Rattle.jx_ndjson_report.specs.inside.LineTeller.{HasTaken, HasTakenAs, HasTakenTexts, LineTellerValue}
 use Rattle.jx_ndjson_report.proofs.Told.{lines_among, more_bad, more_good, more_lines, one_more_bad, one_more_good, one_more_line, others_good, same_exit, told_among}
 
 -- ---- results
@@ -163,6 +163,16 @@ takes_whole task bytes more given answers whole old new h k few lines at good ba
           ∙ sym (more_lines task h.answers moved);
     }
 
+pub takes_whole_as : (task : LinesTask) (bytes more given : List ℕ) (answers : List JudgedLine) (whole : WholeLinesValue) (old new : LineTellerValue) (h : HasTaken task bytes given old)
+    → AreWhole task.settings.depth more answers whole → length whole.bad ≤ whole.count → (lines at : ℕ)
+    → new.good ≡ old.good + (whole.count - length whole.bad)
+    → new.bad ≡ old.bad + length (bad_of task.blanks (map (moved_line lines at) whole.bad))
+    → new.ready ≡ old.ready ++ bad_lines task (map (moved_line lines at) whole.bad)
+    → ((told : List JudgedLine) → HasTold task.settings bytes told old.lines → HasTold task.settings (bytes ++ more) (told ++ map (moved_line lines at) answers) new.lines)
+    → HasTakenAs task (bytes ++ more) given (h.answers ++ map (moved_line lines at) answers) new
+unfolding takes_whole
+takes_whole_as task bytes more given answers whole old new h k few lines at good bad ready reads = (takes_whole task bytes more given answers whole old new h k few lines at good bad ready reads, refl)
+
 -- what waits was written
 pub gives : (task : LinesTask) (bytes given : List ℕ) (old new : LineTellerValue) → HasTaken task bytes given old → new.lines ≡ old.lines → new.good ≡ old.good → new.bad ≡ old.bad → new.ready ≡ []
     → HasTaken task bytes (given ++ old.ready) new
@@ -179,6 +189,24 @@ pub gives_as : (task : LinesTask) (bytes given : List ℕ) (old new : LineTeller
     → HasTakenAs task bytes (given ++ old.ready) h.answers new
 unfolding gives
 gives_as task bytes given old new h lines good bad none = (gives task bytes given old new h lines good bad none, refl)
+
+-- no more bytes
+pub no_texts_taken : (task : LinesTask) (bytes given : List ℕ) (at : ℕ) (t : LineTellerValue) (h : HasTaken task bytes given t) → HasTakenTexts task bytes given [] h.answers at t
+no_texts_taken task bytes given at t h =
+    record {
+      texts = [];
+      taken = (
+        record {
+          answers = h.answers;
+          told = subst (λ (xs : List ℕ). HasTold task.settings xs h.answers t.lines) (sym (append-nil bytes)) h.told;
+          good_are = h.good_are;
+          bad_are = h.bad_are;
+          written = h.written;
+        },
+        sym (append-nil h.answers),
+      );
+      pass = λ front more from. refl;
+    }
 
 -- before the first byte
 pub taken_none : (task : LinesTask) (t : LineTellerValue) → HasTold task.settings [] [] t.lines → t.good ≡ 0 → t.bad ≡ 0 → t.ready ≡ [] → HasTaken task [] [] t

@@ -77,8 +77,21 @@ impl LinePasser {
         self.kept.extend_from_slice(chunk)
     }
 
+    /// Takes lines in front of a slice that are texts, where it stands between two lines, and passes them at once. Answers how
+    /// many bytes those are.
+    fn take_texts(&mut self, task: &LinesTask, slice: &[u8]) -> Result<usize, AllocError>
+        requires fits { self.old.teller.lines.reader.start + self.old.teller.lines.reader.count + length slice.now < 2 ^ 64 }
+        ensures within { IfOk result (λ taken. taken ≤ length slice.now) }
+        ensures taken { IfOk result (λ taken. (bytes given said : List ℕ) → HasPassed task.now bytes given said self.old → HasPassed task.now (bytes ++ take taken slice.now) given said self.new) }
+        ensures count { IfOk result (λ taken. self.new.teller.lines.reader.start + self.new.teller.lines.reader.count ≡ self.old.teller.lines.reader.start + self.old.teller.lines.reader.count + taken) }
+    {
+        let taken = self.teller.take_texts(task, slice)?;
+        self.ready.extend_from_slice(&slice[..taken])?;
+        Ok(taken)
+    }
+
     /// Takes a slice up to and with its first line feed, or less, and answers how many bytes those are.
-    fn take_step(&mut self, task: &LinesTask, slice: &[u8]) -> Result<usize, AllocError>
+    fn take_line(&mut self, task: &LinesTask, slice: &[u8]) -> Result<usize, AllocError>
         requires fits { self.old.teller.lines.reader.start + self.old.teller.lines.reader.count + length slice.now < 2 ^ 64 }
         ensures within { IfOk result (λ taken. taken ≤ length slice.now) }
         ensures some { IfOk result (λ taken. 0 < length slice.now → 0 < taken) }
@@ -90,6 +103,20 @@ impl LinePasser {
         self.pass(step.line, chunk)?;
         self.keep(chunk)?;
         Ok(step.taken)
+    }
+
+    /// Takes lines in front of a slice that are texts, and what follows them up to and with the next line feed, or
+    /// less. Answers how many bytes those are.
+    fn take_step(&mut self, task: &LinesTask, slice: &[u8]) -> Result<usize, AllocError>
+        requires fits { self.old.teller.lines.reader.start + self.old.teller.lines.reader.count + length slice.now < 2 ^ 64 }
+        ensures within { IfOk result (λ taken. taken ≤ length slice.now) }
+        ensures some { IfOk result (λ taken. 0 < length slice.now → 0 < taken) }
+        ensures taken { IfOk result (λ taken. (bytes given said : List ℕ) → HasPassed task.now bytes given said self.old → HasPassed task.now (bytes ++ take taken slice.now) given said self.new) }
+        ensures count { IfOk result (λ taken. self.new.teller.lines.reader.start + self.new.teller.lines.reader.count ≡ self.old.teller.lines.reader.start + self.old.teller.lines.reader.count + taken) }
+    {
+        let passed = self.take_texts(task, slice)?;
+        let taken = self.take_line(task, &slice[passed..])?;
+        Ok(passed + taken)
     }
 
     /// Takes a slice after all bytes that it has taken. Fails only when out of memory.

@@ -8,7 +8,7 @@ ghost use Rattle.jx_ndjson.specs.Reading.{HasTold, listed};
 ghost use Rattle.jx_ndjson.specs.WholeLines.{AreWhole, moved_line};
 ghost use Rattle.jx_words.specs.Verdicts.{shown_output};
 ghost use Rattle.jx_ndjson_report.specs.Output.{bad_lines, bad_of, is_bad, is_good, total_words};
-ghost use Rattle.jx_ndjson_report.specs.inside.LineTeller.{HasTaken, HasTakenAs};
+ghost use Rattle.jx_ndjson_report.specs.inside.LineTeller.{HasTaken, HasTakenAs, HasTakenTexts};
 ghost use Rattle.jx_ndjson_report.specs.inside.Shared.{IsShared};
 ghost use Rattle.jx_ndjson_report.specs.inside.LineSteps.{bad_line, exit_by};
 
@@ -164,9 +164,10 @@ impl LineTeller {
         requires in_front { self.old.lines.in_front ≡ false }
         requires between { self.old.lines.reader.count ≡ 0 }
         requires fits { self.old.lines.reader.start + whole.now.len < 2 ^ 64 }
-        ensures taken { OnOk result ((bytes given more : List ℕ) (answers : List JudgedLine) → HasTaken task.now bytes given self.old → AreWhole task.now.settings.depth more answers whole.now
-            → HasTaken task.now (bytes ++ more) given self.new) }
-        ensures count { OnOk result (self.new.lines.reader.start + self.new.lines.reader.count ≡ self.old.lines.reader.start + whole.now.len) }
+        ensures taken { OnOk result ((bytes given more : List ℕ) (answers : List JudgedLine) (before : HasTaken task.now bytes given self.old) → AreWhole task.now.settings.depth more answers whole.now
+            → HasTakenAs task.now (bytes ++ more) given (before.answers ++ map (moved_line self.old.lines.ended self.old.lines.reader.start) answers) self.new) }
+        ensures start { OnOk result (self.new.lines.reader.start ≡ self.old.lines.reader.start + whole.now.len) }
+        ensures between { OnOk result (self.new.lines.reader.count ≡ 0) }
         ensures bad { OnOk result (self.new.bad ≤ self.old.bad + length whole.now.bad) }
     {
         let bad = whole.bad();
@@ -181,11 +182,14 @@ impl LineTeller {
     }
 
     /// Takes lines in front of a slice that are texts, where it stands between two lines, and answers how many bytes those are.
-    fn take_texts(&mut self, task: &LinesTask, slice: &[u8]) -> Result<usize, AllocError>
+    pub fn take_texts(&mut self, task: &LinesTask, slice: &[u8]) -> Result<usize, AllocError>
         requires fits { self.old.lines.reader.start + self.old.lines.reader.count + length slice.now < 2 ^ 64 }
         ensures within { IfOk result (λ taken. taken ≤ length slice.now) }
-        ensures taken { IfOk result (λ taken. (bytes given : List ℕ) → HasTaken task.now bytes given self.old → HasTaken task.now (bytes ++ take taken slice.now) given self.new) }
-        ensures count { IfOk result (λ taken. self.new.lines.reader.start + self.new.lines.reader.count ≡ self.old.lines.reader.start + self.old.lines.reader.count + taken) }
+        ensures taken { IfOk result (λ taken. (bytes given : List ℕ) (before : HasTaken task.now bytes given self.old)
+            → HasTakenTexts task.now bytes given (take taken slice.now) before.answers self.old.lines.reader.start self.new) }
+        ensures start { IfOk result (λ taken. self.new.lines.reader.start ≡ self.old.lines.reader.start + taken) }
+        ensures open { OnOk result (self.new.lines.reader.count ≡ self.old.lines.reader.count) }
+        ensures between { IfOk result (λ taken. 0 < taken → self.old.lines.reader.count ≡ 0) }
         ensures bad { OnOk result (self.new.bad ≤ self.old.bad) }
     {
         if !self.lines.is_between() {

@@ -2,6 +2,8 @@ pub mod AllShown
 pub mod Documents
 pub mod LastHolding
 pub mod Outlines
+pub mod Innermosts
+pub mod Leading
 pub mod ValuesAt
 pub mod Grown
 pub mod Marked

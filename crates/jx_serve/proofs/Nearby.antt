@@ -1,5 +1,5 @@
 -- Positions that are counted on from one that is known.
-use Rattle.std.proofs.Common.{◌≡◌, ℕ, ◌+◌, ◌-◌, ◌≤◌, List, ◌++◌, min, length, take, drop, sym, ap, ◌∙◌, arith}
+use Rattle.std.proofs.Common.{◌≡◌, ℕ, ◌+◌, ◌-◌, ◌≤◌, List, ◌++◌, min, length, take, sym, ap, ◌∙◌, arith}
 use Rattle.std.specs.Prelude.{slice_range, IfSome, Option, None, Some}
 use Rattle.std.proofs.lemmas.List.{length-take-le, take-take}
 use Rattle.std.proofs.Math.Seq.{take-add}

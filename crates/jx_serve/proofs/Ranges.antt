@@ -1,5 +1,5 @@
 -- Lists of values, and ranges in each other.
-use Rattle.std.proofs.Common.{◌≡◌, ℕ, suc, zero, ◌+◌, ◌≤◌, Bool, true, false, not, List, [], ◌∷◌, ◌++◌, append_assoc, append-nil, codes, refl, sym, ap, subst, ◌∙◌, inl, inr, ◌⊎◌, arith}
+use Rattle.std.proofs.Common.{◌≡◌, ℕ, suc, zero, ◌+◌, ◌≤◌, Bool, true, false, not, List, [], ◌∷◌, ◌++◌, append_assoc, append-nil, codes, refl, sym, ap, subst, ◌∙◌, inl, inr, arith}
 use Rattle.jx_lex.specs.Token.{IsString, IsNumber}
 use Rattle.jx_serve.specs.inside.Sound.{braces, comma, list_head, AddsNamed, AddsValue, AreRanges, IsAString, IsBegun, IsParent, IsPlainValue, IsValue, IsWhole}
 use Rattle.jx_serve.proofs.Sounds.{a_number, a_string, an_object, distinct_by, members_end, members_on, plain_string}

@@ -1,6 +1,6 @@
 -- Values that are put together of values, with names that are not repeated.
-use Rattle.std.proofs.Common.{◌≡◌, ◌≢◌, ℕ, zero, suc, ◌+◌, ◌-◌, ◌/◌, ◌%◌, ◌^◌, ◌<◌, ◌≤◌, max, Bool, true, false, cond, get_or, List, [], ◌∷◌, ◌++◌, length, take, drop, append_assoc, append-nil, decimal, refl, sym, ap, subst, ◌∙◌, inl, inr, arith, ◌⊎◌}
-use Rattle.std.specs.Prelude.{None, Some, slice_range, codes, ◌==◌, ◌&&◌, ◌||◌, nat_le, nat_lt, not}
+use Rattle.std.proofs.Common.{◌≡◌, ◌≢◌, ℕ, zero, suc, ◌+◌, ◌-◌, ◌/◌, ◌%◌, ◌^◌, ◌<◌, ◌≤◌, Bool, true, false, cond, get_or, List, [], ◌∷◌, ◌++◌, length, take, drop, append_assoc, append-nil, decimal, refl, sym, ap, subst, ◌∙◌, inl, inr, arith}
+use Rattle.std.specs.Prelude.{None, Some, slice_range, ◌==◌, ◌&&◌, ◌||◌, nat_le, nat_lt, not}
 use Rattle.std.specs.Str.{bytes_eq}
 use Rattle.std.specs.Char.Escape.{encode_utf16}
 use Rattle.std.specs.List.{list_all}
@@ -12,15 +12,15 @@ use Rattle.std.proofs.lemmas.Fmt.{decimal_by_steps}
 use Rattle.std.proofs.lemmas.List.Folds.{list_all-append}
 use Rattle.jx_lex.specs.declared.kind.Kind.{Kind}
 use Rattle.jx_lex.specs.declared.kind.Kind.TheVariants as kind
-use Rattle.jx_lex.specs.Character.{Utf8, one}
+use Rattle.jx_lex.specs.Character.{one}
 use Rattle.jx_lex.specs.Token.{IsChar, character, Chars, no_chars, one_char, IsString, quoted, IsToken, IsDigit, Digits, no_digits, digit, unsigned, IsInt, zero_alone, leading, no_frac, no_exp, IsNumber, number}
-use Rattle.jx_run.specs.Grammar.{Blanks, no_blanks, Scalar, Value, leaf, empty_array, array, object, Items, last_item, item, Members, last_member, member}
-use Rattle.jx_run.specs.Tree.{Tree, node, Children, no_children, child, span}
+use Rattle.jx_run.specs.Grammar.{no_blanks, Scalar, leaf, empty_array, array, object, last_item, item, last_member, member}
+use Rattle.jx_run.specs.Tree.{node, no_children, child, span}
 use Rattle.jx_index.specs.Repeats.{IsAmong}
 use Rattle.jx_index.specs.Units.{units_at, between_marks, chars_units}
 use Rattle.jx_index.specs.declared.units.Spelling.TheVariants.{InText}
 use Rattle.jx_index.proofs.UnitLaws.{string_is}
-use Rattle.jx_serve.specs.inside.Sound.{AreDistinct, names_of, IsUnique, AreUnique, HasValue, HasItems, HasMembers, IsValue, AreItems, AreMembers, is_plain, are_plain, is_digit, are_digits, is_natural, IsPlain}
+use Rattle.jx_serve.specs.inside.Sound.{AreDistinct, names_of, IsValue, AreItems, AreMembers, is_plain, are_plain, is_digit, are_digits, is_natural, IsPlain}
 
 -- ---- where bytes stand
 

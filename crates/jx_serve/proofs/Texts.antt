@@ -4,7 +4,6 @@ use Rattle.std.specs.Prelude.{OnOk, Result, Ok, Err}
 use Rattle.jx_lex.specs.Token.{IsString, IsNumber}
 use Rattle.jx_lex.specs.declared.kind.Kind.{Kind}
 use Rattle.jx_lex.specs.declared.kind.Kind.TheVariants as kind
-use Rattle.jx_run.specs.Settings.{IsDocumentBy}
 use Rattle.jx_run.specs.Text.{document}
 use Rattle.jx_run.specs.Grammar.{no_blanks}
 use Rattle.jx_run.specs.declared.texts.verdict.Verdict.TheVariants.{Accepted}
@@ -12,7 +11,7 @@ use Rattle.jx_index.specs.ByNames.{IsVerdictBy, a_text}
 use Rattle.jx_edit.specs.declared.positions.position.Position.{Position}
 use Rattle.jx_serve.specs.Messages.{message_settings}
 use Rattle.jx_serve.specs.Words.{ends}
-use Rattle.jx_serve.specs.inside.Sound.{AreItems, AreMembers, IsValue, IsWhole, IsHead, IsList, IsBegun, IsAString, IsPlain, IsPlainValue, AreDistinct, AddsHead, AddsNamed, AddsString, AreOpen, closings, kind_member, list_head, symbol_kind}
+use Rattle.jx_serve.specs.inside.Sound.{AreItems, IsValue, IsWhole, IsHead, IsBegun, IsAString, IsPlain, IsPlainValue, AreDistinct, AddsHead, AddsNamed, AddsString, AreOpen, closings, kind_member, list_head, symbol_kind}
 use Rattle.jx_serve.proofs.Sounds.{a_string, a_number, members_end, members_on, an_object, an_array, decimal_plain, distinct_by, natural_number, no_items, plain_string}
 use Rattle.jx_serve.proofs.Opens.{all_closed}
 use Rattle.jx_serve.proofs.Uniques.{never_repeated}

@@ -1,5 +1,5 @@
 -- Where no object of a tree repeats a name, no row of the text begins a repeated one.
-use Rattle.std.proofs.Common.{◌≡◌, ℕ, suc, Bool, true, false, cond, List, [], ◌∷◌, drop, map, Option, None, Some, refl, sym, ap, subst, ◌∙◌, inl, inr, ◌⊎◌}
+use Rattle.std.proofs.Common.{◌≡◌, ℕ, suc, Bool, true, false, cond, List, [], ◌∷◌, drop, map, refl, sym, ap, subst, ◌∙◌, inl, inr}
 use Rattle.std.specs.Prelude.{filter}
 use Rattle.jx_lex.specs.declared.kind.Kind.{Kind}
 use Rattle.jx_lex.specs.declared.kind.Kind.TheVariants as kind
@@ -8,7 +8,7 @@ use Rattle.jx_index.specs.Leads.{Numbered, numbered, kind_of, children_of}
 use Rattle.jx_index.specs.Names.{name_units, units_of_name}
 use Rattle.jx_index.specs.Nodes.{kind_in, child_numbers}
 use Rattle.jx_index.specs.Repeats.{IsAmong, has_units, IsRepeat}
-use Rattle.jx_index.specs.Rows.{size, rows}
+use Rattle.jx_index.specs.Rows.{rows}
 use Rattle.jx_index.specs.Standing.{Standing, Stands, itself, inside, StandsBelow, in_first, in_later}
 use Rattle.jx_index.proofs.Bridge.{IsChild, children_stand, kind_there, name_of_child, object_row}
 use Rattle.jx_index.proofs.Each.{Each}

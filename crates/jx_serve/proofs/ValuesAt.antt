@@ -1,73 +1,16 @@
--- The value at an offset, by the index of a text, and what is shown of it.
+-- What is shown of the value at an offset.
 use Rattle.std.proofs.Common.{◌≡◌, ◌≤◌, ℕ, Bool, List, true, false, inl, inr, refl, subst, sym, ◌∙◌}
-use Rattle.std.specs.Prelude.{◌⊎◌, Option, None, Some, Result, Ok, IfSome, Vec, slice_get}
-use Rattle.std.specs.Global.{Global}
+use Rattle.std.specs.Prelude.{◌⊎◌, Option, None, Some}
 use Rattle.jx_edit.specs.Positions.{offset_at}
 use Rattle.jx_edit.specs.declared.positions.encoding.Encoding.{Encoding}
-use Rattle.jx_index.specs.Indexed.{IndexedValue}
-use Rattle.jx_index.specs.Leads.{leads}
-use Rattle.jx_index.specs.Pointers.{tokens}
-use Rattle.jx_index.specs.Settled.{IsAnswerBy, IsIndexBy}
-use Rattle.jx_index.specs.declared.find_fault.FindFault.{FindFault}
-use Rattle.jx_index.specs.declared.row.Row.{Row}
-use Rattle.jx_index.specs.declared.text_answer.TextAnswer.{TextAnswer}
-use Rattle.jx_index.specs.declared.text_answer.TextAnswer.TheVariants as answer
-use Rattle.jx_run.specs.Text.{IsText}
-use Rattle.jx_run.specs.Tree.{Tree}
 use Rattle.jx_run.specs.declared.texts.settings.Settings.{Settings}
-use Rattle.jx_run.specs.declared.texts.verdict.Refusal.{Refusal}
 use Rattle.jx_wire.specs.declared.call.Place.{Place}
 use Rattle.jx_serve.specs.Changes.{HeldValue, position}
 use Rattle.jx_complete.specs.Completed.{IsCompleted}
-use Rattle.jx_serve.specs.Values.{any_names, in_no_value, is_due, HasNoHover, HasNoValueAt, no_text, in_none, IsFoundAt, IsHoverAt, IsHovered, IsInNone, IsInnermost, IsValueAt}
+use Rattle.jx_serve.specs.Values.{any_names, in_no_value, is_due, HasNoHover, HasNoValueAt, no_text, in_none, IsFoundAt, IsHoverAt, IsHovered, IsValueAt}
 use Rattle.jx_serve.proofs.Outlines.{not_refused}
 use Rattle.jx_serve.specs.declared.hover.Hover.{Hover}
 use Rattle.jx_serve.specs.declared.under_cursor.ValueAt.{ValueAt}
-
-pub in_no_text : (settings : Settings) (text : List ℕ) (offset : ℕ) (told : TextAnswer) (refusal : Refusal) → IsAnswerBy settings text told → told ≡ answer.Refused refusal
-    → HasNoValueAt settings text offset
-in_no_text settings text offset told refusal a e =
-    let x : IsAnswerBy settings text (answer.Refused refusal) = subst (IsAnswerBy settings text) e a in
-    no_text x
-
-index_of : (settings : Settings) (text : List ℕ) (told : TextAnswer) (index : IndexedValue) → IsAnswerBy settings text told → told ≡ answer.Accepted index → IsIndexBy settings text index
-index_of settings text told index a e =
-    let x : IsAnswerBy settings text (answer.Accepted index) = subst (IsAnswerBy settings text) e a in
-    x.1
-
-pub held_by_none : (settings : Settings) (text : List ℕ) (offset : ℕ) (told : TextAnswer) (index : IndexedValue) (table : List Row) → IsAnswerBy settings text told → told ≡ answer.Accepted index
-    → table ≡ index.rows → IsInNone table offset → HasNoValueAt settings text offset
-held_by_none settings text offset told index table a e r n =
-    let q : IsIndexBy settings text index = index_of settings text told index a e in
-    in_none q.is_text (subst (λ t. IsInNone t offset) (r ∙ q.rows_are) n)
-
-abbrev ok : ℕ → Result ℕ FindFault
-ok number = Ok number
-
--- a pointer leads to the value in each tree of the index
-abbrev pub LeadsIn : IndexedValue → ℕ → Option (Vec ℕ Global) → Type 0
-LeadsIn index number told =
-    IfSome told (λ pointer. (limit : ℕ) (tree : Tree) → IsText index.text index.span.start index.span.end limit tree → leads index.text tree (tokens pointer.items) ≡ ok number)
-
-led_in : (index : IndexedValue) (text : List ℕ) (limit number : ℕ) (tree : Tree) (told : Option (Vec ℕ Global)) → index.text ≡ text → IsText index.text index.span.start index.span.end limit tree
-    → LeadsIn index number told → IfSome told (λ pointer. leads text tree (tokens pointer.items) ≡ ok number)
-led_in index text limit number tree None e t l = tt
-led_in index text limit number tree (Some pointer) e t l = subst (λ x. leads x tree (tokens pointer.items) ≡ ok number) e (l limit tree t)
-
-pub held_by : (settings : Settings) (text : List ℕ) (offset number : ℕ) (told : TextAnswer) (index : IndexedValue) (table : List Row) (row : Row) (pointer : Option (Vec ℕ Global))
-    → ((x : IsIndexBy settings text index) → IsText index.text index.span.start index.span.end settings.depth x.tree) → IsAnswerBy settings text told → told ≡ answer.Accepted index
-    → table ≡ index.rows → IsInnermost table offset number → slice_get table number ≡ Some row → LeadsIn index number pointer
-    → IsValueAt settings text offset (let v : ValueAt = record { row = row; pointer = pointer } in v)
-held_by settings text offset number told index table row pointer law a e r i g l =
-    let q : IsIndexBy settings text index = index_of settings text told index a e in
-    record {
-      tree = q.tree;
-      is_text = q.is_text;
-      number = number;
-      innermost = subst (λ t. IsInnermost t offset number) (r ∙ q.rows_are) i;
-      is_row = subst (λ t. slice_get t number ≡ Some row) (r ∙ q.rows_are) g;
-      led = led_in index text settings.depth number q.tree pointer q.text (law q) l;
-    }
 
 -- nothing is found in a text that stands in the place of bytes
 no_hover_by : (settings : Settings) (bytes text : List ℕ) (kept offset : ℕ) → IsCompleted (any_names settings) bytes text kept → HasNoValueAt (any_names settings) text offset → HasNoHover settings bytes offset

@@ -18,10 +18,11 @@ use crate::line_table::LineTable;
 use crate::mark::{Mark, mark_of};
 use crate::selections::{Selection, selections_of};
 use crate::symbols::{Outline, symbols_of};
-use crate::under_cursor::{outer_start, value_at};
+use crate::under_cursor::{start_of, value_at};
+use jx_around::Around;
 use jx_complete::{Completed, complete};
 use jx_edit::{Document, DocumentFault, Encoding, Position};
-use jx_index::{Row, read_rows, repeated_name_by_rows, verdict_with_unique_names};
+use jx_index::{read_rows, repeated_name_by_rows, verdict_with_unique_names};
 use jx_run::{NameRule, NoPause, Settings, Verdict};
 use jx_wire::{Change, Place};
 use std::alloc::{AllocError, Global};
@@ -52,11 +53,11 @@ impl Model for Held {
 }
 
 /// The offset at which a value is shown that contains an offset: the start of its name where the offset is before the value.
-fn shown_from(row: &Row, offset: usize) -> usize
+fn shown_from(row: &Around, offset: usize) -> usize
     ensures { result ≡ shown_from offset row.now }
 {
     if offset < row.span.start {
-        outer_start(row)
+        start_of(row.name, row.span)
     } else {
         row.span.start
     }

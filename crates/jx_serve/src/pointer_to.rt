@@ -1,11 +1,16 @@
 // Pointers to values (RFC 6901).
-ghost use Rattle.std.specs.Prelude.{◌≡◌, ℕ, true, Ok, IfOk, IfSome};
+ghost use Rattle.std.specs.Prelude.{◌≡◌, ℕ, Ok, Some, IfOk, IfSome, IsTrue, slice_get};
 ghost use Rattle.jx_index.specs.Leads.{leads};
 ghost use Rattle.jx_index.specs.Pointers.{tokens};
-ghost use Rattle.jx_run.specs.Text.{IsText};
+ghost use Rattle.jx_index.specs.Rows.{rows};
+ghost use Rattle.jx_run.specs.Settings.{IsDocumentBy};
 ghost use Rattle.jx_run.specs.Tree.{Tree};
+ghost use Rattle.jx_serve.specs.inside.Leading.{StartsAt};
 
-use jx_index::{Indexed, Pointer, Row};
+use jx_around::Around;
+use jx_find::find_each_by;
+use jx_index::{FindFault, Found, Pointer, rows_of_look_ups, strings_pointers_and_rows};
+use jx_run::{NameRule, Settings, unique_tree_by_settings};
 use jx_wire::{StringFault, unescaped};
 use std::alloc::{AllocError, Global};
 use std::str;
@@ -34,20 +39,6 @@ impl From<StringFault> for PointerLack {
     }
 }
 
-/// The numbers of the values on the way from one up to the root, which is left out.
-fn way_up(alloc: Global, rows: &[Row], number: usize) -> Result<Vec<usize>, AllocError> {
-    let mut way = Vec::new(alloc);
-    let mut number = number;
-    for _ in 0..rows.len() {
-        let Some(parent) = rows.get(number).and_then(|row| row.parent) else {
-            break;
-        };
-        way.push(number)?;
-        number = parent.number();
-    }
-    Ok(way)
-}
-
 /// Adds a name as a token, in which `~0` stands for `~` and `~1` for `/`.
 fn add_name(out: &mut Vec<u8>, name: &[u8]) -> Result<(), AllocError> {
     for byte in name {
@@ -61,7 +52,12 @@ fn add_name(out: &mut Vec<u8>, name: &[u8]) -> Result<(), AllocError> {
 }
 
 /// Adds the token that leads from its parent to a value.
-fn add_token(alloc: Global, out: &mut Vec<u8>, text: &[u8], row: &Row) -> Result<(), PointerLack> {
+fn add_token(
+    alloc: Global,
+    out: &mut Vec<u8>,
+    text: &[u8],
+    row: &Around,
+) -> Result<(), PointerLack> {
     out.extend_from_slice(b"/")?;
     match row.name {
         None => {
@@ -78,53 +74,88 @@ fn add_token(alloc: Global, out: &mut Vec<u8>, text: &[u8], row: &Row) -> Result
 }
 
 /// The names and the places on the way from the root to a value, as a pointer.
-fn spelt_way(alloc: Global, index: &Indexed, number: usize) -> Result<Vec<u8>, PointerLack> {
-    let rows = index.rows();
-    let way = way_up(alloc, rows, number)?;
+fn spelt_way(alloc: Global, text: &[u8], way: &[Around]) -> Result<Vec<u8>, PointerLack> {
     let mut pointer = Vec::new(alloc);
-    for number in way.iter().rev() {
-        if let Some(row) = rows.get(*number) {
-            add_token(alloc, &mut pointer, index.text(), row)?;
+    for row in way {
+        if row.parent.is_some() {
+            add_token(alloc, &mut pointer, text, row)?;
         }
     }
     Ok(pointer)
 }
 
-/// Whether some bytes are a pointer that leads to the row of a number.
-fn leads_to(index: &Indexed, pointer: &[u8], number: usize) -> bool
-    ensures { result ≡ true → (limit : ℕ) (tree : Tree) → IsText index.now.text index.now.span.start index.now.span.end limit tree
-        → leads index.now.text tree (tokens pointer.now) ≡ Ok number }
+/// Whether the first answer is a value that starts at an offset.
+fn starts_at(answers: &[Result<Found, FindFault>], offset: usize) -> bool
+    ensures { IsTrue result → StartsAt offset answers.now }
 {
-    let Ok(text) = str::from_utf8(pointer) else {
-        return false;
-    };
-    let Ok(pointer) = Pointer::read(text) else {
-        return false;
-    };
-    match index.find(&pointer) {
-        Ok(node) => node.number() == number,
-        Err(_) => false,
+    match answers.first() {
+        Some(Ok(found)) => found.span.start == offset,
+        _ => false,
     }
 }
 
-/// The pointer to the row of a number. It is looked up before it is returned: there is none where a name on the way is
-/// repeated in its object, or has half of a surrogate pair without the other half.
+/// Whether a pointer leads to the value of a row in a text, whatever names its objects have.
+fn finds(
+    alloc: Global,
+    text: &[u8],
+    settings: &Settings,
+    pointer: Pointer,
+    row: &Around,
+) -> Result<bool, AllocError>
+    ensures { IfOk result (λ found. IsTrue found → (tree : Tree) (number : ℕ) → IsDocumentBy settings.now 0 text.now tree
+        → slice_get (rows tree) number ≡ Some row.now → leads text.now tree (tokens pointer.entry) ≡ Ok number) }
+{
+    strings_pointers_and_rows();
+    rows_of_look_ups();
+    unique_tree_by_settings();
+    let any = Settings {
+        depth: settings.depth,
+        mark: settings.mark,
+        names: NameRule::Any,
+    };
+    match find_each_by(alloc, text, &any, &[pointer])? {
+        Err(_) => Ok(false),
+        Ok(found) => Ok(starts_at(&found, row.span.start)),
+    }
+}
+
+/// Whether some bytes are a pointer that leads to the value of a row.
+fn leads_to(
+    alloc: Global,
+    text: &[u8],
+    settings: &Settings,
+    pointer: &[u8],
+    row: &Around,
+) -> Result<bool, AllocError>
+    ensures { IfOk result (λ led. IsTrue led → (tree : Tree) (number : ℕ) → IsDocumentBy settings.now 0 text.now tree
+        → slice_get (rows tree) number ≡ Some row.now → leads text.now tree (tokens pointer.now) ≡ Ok number) }
+{
+    let Ok(spelt) = str::from_utf8(pointer) else {
+        return Ok(false);
+    };
+    let Ok(pointer) = Pointer::read(spelt) else {
+        return Ok(false);
+    };
+    finds(alloc, text, settings, pointer, row)
+}
+
+/// The pointer to the value of a row, by the rows on the way to it, of which it is the last. It is looked up before it is
+/// returned: there is none where a name on the way is repeated in its object, or has half of a surrogate pair without the other half.
 pub(crate) fn pointer_to(
     alloc: Global,
-    index: &Indexed,
-    number: usize,
+    text: &[u8],
+    settings: &Settings,
+    way: &[Around],
+    row: &Around,
 ) -> Result<Option<Vec<u8>>, AllocError>
-    ensures { IfOk result (λ told. IfSome told (λ pointer. (limit : ℕ) (tree : Tree)
-        → IsText index.now.text index.now.span.start index.now.span.end limit tree → leads index.now.text tree (tokens pointer.items) ≡ Ok number)) }
+    ensures { IfOk result (λ told. IfSome told (λ pointer. (tree : Tree) (number : ℕ) → IsDocumentBy settings.now 0 text.now tree
+        → slice_get (rows tree) number ≡ Some row.now → leads text.now tree (tokens pointer.items) ≡ Ok number)) }
 {
-    let pointer = match spelt_way(alloc, index, number) {
+    let pointer = match spelt_way(alloc, text, way) {
         Ok(pointer) => pointer,
         Err(PointerLack::LoneSurrogate) => return Ok(None),
         Err(PointerLack::Memory) => return Err(AllocError),
     };
-    if leads_to(index, &pointer, number) {
-        Ok(Some(pointer))
-    } else {
-        Ok(None)
-    }
+    let led = leads_to(alloc, text, settings, &pointer, row)?;
+    if led { Ok(Some(pointer)) } else { Ok(None) }
 }

@@ -8,7 +8,7 @@ ghost use Rattle.jx_serve.specs.Values.{label_of, most_symbols, outer_start, row
 
 use crate::near::{Known, beginning, position_near};
 use crate::selections::Extent;
-use crate::under_cursor::outer_start;
+use crate::under_cursor::start_of;
 use jx_edit::{Document, Encoding, Position};
 use jx_index::Row;
 use jx_lex::{Kind, Span};
@@ -94,7 +94,8 @@ fn symbol_of(
     requires known { known.position ≡ position_at encoding document.now.bytes known.offset }
     ensures { result ≡ symbol_of encoding document.now.bytes kept row.now }
 {
-    let outer = position_near(document, before, known, outer_start(row), encoding);
+    let from = start_of(row.name, row.span);
+    let outer = position_near(document, before, known, from, encoding);
     let name_end = kept.min(label_of(row).end);
     let label = position_near(document, before, outer, name_end, encoding);
     let extent = extent_of(document, before, kept, row, outer, label, encoding);

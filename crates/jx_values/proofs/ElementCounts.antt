@@ -1,5 +1,5 @@
 -- The number of line feeds is that of elements.
-use Rattle.std.specs.Prelude.{◌==◌, ◌&&◌, IfSome, Option, Some, SomeIff, None, decimal, flat_map}
+use Rattle.std.specs.Prelude.{◌==◌, IfSome, Option, Some, SomeIff, None, decimal, flat_map}
 use Rattle.std.specs.Io.KnownBytes.{Appends}
 use Rattle.std.proofs.Common.{◌≡◌, ℕ, zero, suc, ◌+◌, List, [], ◌∷◌, ◌++◌, length, Bool, true, false, ◌<◌, refl, sym, ap, subst, ◌∙◌, arith}
 use Rattle.std.proofs.lemmas.Bool.{and_parts, eqb-true}
@@ -69,12 +69,12 @@ module _ (settings : Settings) (pointer : List ℕ) (u l : Option (List ℕ)) (n
   Reports exit = ReportsElements Empty settings pointer u l (Some []) (Some (line_feeds n)) lost told retold exit
 
   good_text : (r : Reports Good) → (tree : Tree) × IsDocumentBy settings 0 r.text tree
-  good_text r = a_text settings pointer r.text r.tells r.answer.verdict r.answer.told (good_tells r.tells r.answer.ends)
+  good_text r = a_text settings pointer r.text r.answer.said r.answer.verdict r.answer.told (sym r.answer.all_told ∙ good_tells r.tells r.answer.ends)
 
   good_count : (r : Reports Good) (tree : Tree) → IsDocumentBy settings 0 r.text tree → line (decimal n) ≡ count_line r.text pointer tree
   good_count r tree is_text =
       let es : List Element = elements_at Empty r.text (tokens pointer) tree in
-      let made : line_feeds n ≡ line_feeds (length es) = r.wrote ∙ law pointer r.text r.output tree is_text r.answer.due ∙ empty_lines r.text es in
+      let made : line_feeds n ≡ line_feeds (length es) = r.wrote ∙ law pointer r.text r.lines tree is_text r.answer.due ∙ empty_lines r.text es in
       ap (λ (k : ℕ). line (decimal k)) (sym (length_of_line_feeds n) ∙ ap length made ∙ length_of_line_feeds (length es))
 
   counted : (exit : Exit) (r : Reports exit) → IsCounted settings pointer r.text exit (number_by exit n)
@@ -87,7 +87,7 @@ module _ (settings : Settings) (pointer : List ℕ) (u l : Option (List ℕ)) (n
     output = number_by exit n;
     tells = r.tells;
     read = r.read;
-    answer = record { verdict = r.answer.verdict; is_verdict = r.answer.is_verdict; told = r.answer.told; ends = r.answer.ends; counted = counted exit r };
+    answer = record { verdict = r.answer.verdict; is_verdict = r.answer.is_verdict; told = subst (λ (x : List ℕ). TellsByVerdict Empty settings pointer r.text r.answer.verdict x) (sym r.answer.all_told) r.answer.told; ends = r.answer.ends; counted = counted exit r };
     wrote = wrote;
     says = r.says;
   }

@@ -10,3 +10,4 @@ mod Keeps
 mod Gathers
 mod Holds
 mod Looks
+mod NameTexts

@@ -22,6 +22,7 @@ use Rattle.jx_words.specs.declared.pointer_answer.PointerAnswer.TheVariants.{Los
 use Rattle.jx_ends.specs.Ends.{ReadsToEnd, AppendsBeginning}
 use Rattle.jx_words.specs.Pointers.{answer_words}
 use Rattle.jx_words.specs.Words.{line, refusal_words}
+use Rattle.jx_values.specs.NameTexts.{lone_in, shown_as, told_of_lone}
 use Rattle.jx_values.specs.Values.{exit_by, told_words}
 
 -- ---- of an input
@@ -71,48 +72,65 @@ TellsByVerdict content settings pointer input Accepted tells =
     (tree : Tree) × IsDocumentBy settings 0 input tree × (tells ≡ told_of_found content pointer (found_of (led input tree (tokens pointer))) (length (tokens pointer)))
 TellsByVerdict content settings pointer input (Refused refusal) tells = tells ≡ line (refusal_words refusal)
 
--- the whole output for an input, all that is reported of it, and the status
-pub record ElementsOutput (content : LineContent) (settings : Settings) (pointer input output tells : List ℕ) (exit : Exit) : Type 0 where
-  pub due : IsDueBy content settings pointer input output
+-- the lines that are due of an input, all that is reported of it, and the status; where texts are asked for, also that a line
+-- has none
+pub record ElementsOutput (by_texts : Bool) (content : LineContent) (settings : Settings) (pointer input lines tells : List ℕ) (exit : Exit) : Type 0 where
+  pub due : IsDueBy content settings pointer input lines
   pub verdict : Verdict
   pub is_verdict : JudgedBy settings 0 input verdict
-  pub told : TellsByVerdict content settings pointer input verdict tells
+  pub said : List ℕ
+  pub told : TellsByVerdict content settings pointer input verdict said
+  pub all_told : tells ≡ told_of_lone pointer (lone_in by_texts lines) ++ said
   pub ends : exit ≡ exit_by tells
 
 -- ---- of the ends
 
--- the reader gave all that it had, the writer got the whole output for it, and the report was written unless reporting
+-- the reader gave all that it had, the writer got all lines that are due of it, and the report was written unless reporting
 -- failed
-pub record ReportsElements (content : LineContent) (settings : Settings) (pointer : List ℕ) (unread left written grown : Option (List ℕ)) (is_lost : Bool) (told retold : Option (List ℕ)) (exit : Exit) : Type 0 where
+pub record ReportsLines (by_texts : Bool) (content : LineContent) (settings : Settings) (pointer : List ℕ) (unread left written grown : Option (List ℕ)) (is_lost : Bool) (told retold : Option (List ℕ)) (exit : Exit) : Type 0 where
   pub text : List ℕ
-  pub output : List ℕ
+  pub lines : List ℕ
   pub tells : List ℕ
   pub read : ReadsToEnd unread left text
-  pub answer : ElementsOutput content settings pointer text output tells exit
-  pub wrote : Appends written grown output
+  pub answer : ElementsOutput by_texts content settings pointer text lines tells exit
+  pub wrote : Appends written grown (shown_as by_texts lines)
   pub says : is_lost ≡ false → Appends told retold tells
 
 -- the writer got what is due of the bytes that were read
-pub record WroteDue (content : LineContent) (settings : Settings) (pointer : List ℕ) (unread left written grown : Option (List ℕ)) : Type 0 where
+pub record WroteLinesDue (by_texts : Bool) (content : LineContent) (settings : Settings) (pointer : List ℕ) (unread left written grown : Option (List ℕ)) : Type 0 where
   pub text : List ℕ
-  pub output : List ℕ
+  pub lines : List ℕ
   pub read : Consumes unread left text
-  pub due : IsDueBy content settings pointer text output
-  pub wrote : Appends written grown output
+  pub due : IsDueBy content settings pointer text lines
+  pub wrote : Appends written grown (shown_as by_texts lines)
 
 -- the writer got what is due of a beginning of the bytes that were read: whole lines
-pub record WroteLines (content : LineContent) (settings : Settings) (pointer : List ℕ) (unread left written grown : Option (List ℕ)) : Type 0 where
+pub record WroteWholeLines (by_texts : Bool) (content : LineContent) (settings : Settings) (pointer : List ℕ) (unread left written grown : Option (List ℕ)) : Type 0 where
   pub text : List ℕ
   pub more : List ℕ
-  pub output : List ℕ
+  pub lines : List ℕ
   pub read : Consumes unread left (text ++ more)
-  pub due : IsDueBy content settings pointer text output
-  pub wrote : Appends written grown output
+  pub due : IsDueBy content settings pointer text lines
+  pub wrote : Appends written grown (shown_as by_texts lines)
 
 -- the writer got a beginning of what is due of the bytes that were read, and not all
-pub record WroteInPart (content : LineContent) (settings : Settings) (pointer : List ℕ) (unread left written grown : Option (List ℕ)) : Type 0 where
+pub record WroteLinesInPart (by_texts : Bool) (content : LineContent) (settings : Settings) (pointer : List ℕ) (unread left written grown : Option (List ℕ)) : Type 0 where
   pub text : List ℕ
-  pub output : List ℕ
+  pub lines : List ℕ
   pub read : Consumes unread left text
-  pub due : IsDueBy content settings pointer text output
-  pub wrote : AppendsBeginning written grown output
+  pub due : IsDueBy content settings pointer text lines
+  pub wrote : AppendsBeginning written grown (shown_as by_texts lines)
+
+-- ---- lines as they are made
+
+abbrev pub ReportsElements : LineContent → Settings → List ℕ → Option (List ℕ) → Option (List ℕ) → Option (List ℕ) → Option (List ℕ) → Bool → Option (List ℕ) → Option (List ℕ) → Exit → Type 0
+ReportsElements content settings pointer unread left written grown is_lost told retold exit = ReportsLines false content settings pointer unread left written grown is_lost told retold exit
+
+abbrev pub WroteDue : LineContent → Settings → List ℕ → Option (List ℕ) → Option (List ℕ) → Option (List ℕ) → Option (List ℕ) → Type 0
+WroteDue content settings pointer unread left written grown = WroteLinesDue false content settings pointer unread left written grown
+
+abbrev pub WroteLines : LineContent → Settings → List ℕ → Option (List ℕ) → Option (List ℕ) → Option (List ℕ) → Option (List ℕ) → Type 0
+WroteLines content settings pointer unread left written grown = WroteWholeLines false content settings pointer unread left written grown
+
+abbrev pub WroteInPart : LineContent → Settings → List ℕ → Option (List ℕ) → Option (List ℕ) → Option (List ℕ) → Option (List ℕ) → Type 0
+WroteInPart content settings pointer unread left written grown = WroteLinesInPart false content settings pointer unread left written grown

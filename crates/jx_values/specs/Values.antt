@@ -51,9 +51,14 @@ written form text (Lost fault) = None
 abbrev pub value_line : Form → List ℕ → PointerAnswer → List ℕ
 value_line form text answer = line (unwrap_or (written form text answer) [])
 
+-- a pointer as it is shown: one without a byte, which leads to the whole text, as two quotation marks
+abbrev pub shown_pointer : List ℕ → List ℕ
+shown_pointer [] = codes "''"
+shown_pointer (byte ∷ bytes) = shown (byte ∷ bytes)
+
 -- POINTER: WORDS
 abbrev pub told_words : List ℕ → List ℕ → List ℕ
-told_words pointer words = shown pointer ++ codes ": " ++ line words
+told_words pointer words = shown_pointer pointer ++ codes ": " ++ line words
 
 -- the report on a value by what is written for it
 abbrev pub told_of_value : List ℕ → Option (List ℕ) → List ℕ

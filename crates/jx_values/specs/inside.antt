@@ -4,5 +4,6 @@ pub mod ElementSteps
 pub mod Kept
 pub mod Moved
 pub mod Replies
+pub mod Showing
 pub mod Sought
 pub mod Tally

@@ -2,16 +2,19 @@
 ghost use Rattle.std.specs.Prelude.{◌≡◌, ◌≢◌, ◌<◌, ◌≤◌, ◌↔◌, [], true, false, length, IfErr, IfOk, IsErrOf, OnErr, OnOk};
 ghost use Rattle.jx_index.specs.Pointers.{IsPointer};
 ghost use Rattle.jx_each.specs.Each.{HasTakenBy};
-ghost use Rattle.jx_values.specs.Elements.{ReportsElements, WroteDue, WroteInPart, WroteLines};
+ghost use Rattle.jx_each.specs.declared.content.LineContent.TheVariants.{NameAlone};
+ghost use Rattle.jx_values.specs.Elements.{ReportsElements, ReportsLines, WroteDue, WroteInPart, WroteLines, WroteLinesDue, WroteLinesInPart, WroteWholeLines};
 ghost use Rattle.jx_values.specs.inside.ElementSteps.{IsAllWritten, WritesOn, WritesPart};
+ghost use Rattle.jx_values.specs.inside.Showing.{IsShownBy};
 ghost use Rattle.jx_values.specs.inside.Sought.{HasSought, any_names};
 
+use crate::showing::{Showing, told_with_lone};
 use crate::sought::{Sought, pointers_of, seek, sought_at_start, told_of_elements, verdict_of};
 use crate::telling::{exit_by, tell};
 use jx_crew::{Crew, Gate};
 use jx_each::{Each, LineContent, lines_due_of_no_byte, lines_taken_and_waiting};
 use jx_each_batch::feed_shared;
-use jx_ends::{Exit, ReportFault, Sink, Source, write_whole};
+use jx_ends::{Exit, ReportFault, Sink, Source};
 use jx_run::Settings;
 use std::sync::Wait;
 use std::thread::Threads;
@@ -29,16 +32,17 @@ fn write_due<R: Threads + Wait + Sync, W: Sink, G: Gate + Sync>(
     writer: &mut W,
     each: &mut Each,
     sought: &mut Sought<'_>,
+    showing: &mut Showing,
     batch: &[u8],
     piece: usize,
 ) -> Result<(), ReportFault>
     requires writer { W.has_failed writer.old ≡ false }
     requires piece { 1 ≤ piece }
     ensures settings { each.new.reader.settings ≡ each.old.reader.settings }
-    ensures ok { OnOk result (WritesOn (W.contents writer.old) (W.contents writer.new) batch.now each.old each.new sought.old sought.new) }
+    ensures ok { OnOk result (WritesOn (W.contents writer.old) (W.contents writer.new) batch.now each.old each.new sought.old sought.new showing.old showing.new) }
     ensures going { OnOk result (W.has_failed writer.new ≡ false) }
     ensures write { IsErrOf result ReportFault.Write ↔ (W.has_failed writer.new ≡ true) }
-    ensures beginning { IsErrOf result ReportFault.Write → WritesPart (W.contents writer.old) (W.contents writer.new) batch.now each.old }
+    ensures beginning { IsErrOf result ReportFault.Write → WritesPart (W.contents writer.old) (W.contents writer.new) batch.now each.old showing.old }
     ensures unwritten { IfErr result (λ fault. fault ≢ ReportFault.Write → writer.new ≡ writer.old) }
     ensures unread { IfErr result (λ fault. fault ≢ ReportFault.Read) }
     ensures uncut { IfErr result (λ fault. fault ≢ ReportFault.Pieces) }
@@ -49,7 +53,7 @@ fn write_due<R: Threads + Wait + Sync, W: Sink, G: Gate + Sync>(
     }
     seek(sought, batch)?;
     feed_shared(crew, each, batch, piece)?;
-    write_whole(writer, each.ready())?;
+    showing.write(crew.alloc, writer, each.ready())?;
     each.clear_ready();
     Ok(())
 }
@@ -62,6 +66,7 @@ fn write_all_due<R: Threads + Wait + Sync, S: Source, W: Sink, G: Gate + Sync>(
     writer: &mut W,
     each: &mut Each,
     sought: &mut Sought<'_>,
+    showing: &mut Showing,
     content: LineContent,
     pointer: &str,
     buffer: &mut [u8],
@@ -73,22 +78,23 @@ fn write_all_due<R: Threads + Wait + Sync, S: Source, W: Sink, G: Gate + Sync>(
     requires room { 0 < length buffer.old }
     requires taken { HasTakenBy content pointer.now [] [] each.old }
     requires sought { HasSought content (any_names each.old.reader.settings) pointer.now [] sought.old }
+    requires shown { IsShownBy showing.old.by_texts showing.old [] [] }
     requires ready { each.old.ready ≡ [] }
     ensures settings { each.new.reader.settings ≡ each.old.reader.settings }
-    ensures ok { OnOk result (IsAllWritten content pointer.now (S.remaining reader.old) (S.remaining reader.new) (W.contents writer.old) (W.contents writer.new) each.new sought.new) }
+    ensures ok { OnOk result (IsAllWritten showing.old.by_texts content pointer.now (S.remaining reader.old) (S.remaining reader.new) (W.contents writer.old) (W.contents writer.new) each.new sought.new showing.new) }
     ensures going { OnOk result ((S.has_failed reader.new ≡ false) × (W.has_failed writer.new ≡ false)) }
     ensures read { IsErrOf result ReportFault.Read ↔ (S.has_failed reader.new ≡ true) }
     ensures write { IsErrOf result ReportFault.Write ↔ (W.has_failed writer.new ≡ true) }
-    ensures due { IsErrOf result ReportFault.Read → WroteDue content each.old.reader.settings pointer.now (S.remaining reader.old) (S.remaining reader.new) (W.contents writer.old) (W.contents writer.new) }
-    ensures lines { IsErrOf result ReportFault.Memory → WroteLines content each.old.reader.settings pointer.now (S.remaining reader.old) (S.remaining reader.new) (W.contents writer.old) (W.contents writer.new) }
-    ensures beginning { IsErrOf result ReportFault.Write → WroteInPart content each.old.reader.settings pointer.now (S.remaining reader.old) (S.remaining reader.new) (W.contents writer.old) (W.contents writer.new) }
+    ensures due { IsErrOf result ReportFault.Read → WroteLinesDue showing.old.by_texts content each.old.reader.settings pointer.now (S.remaining reader.old) (S.remaining reader.new) (W.contents writer.old) (W.contents writer.new) }
+    ensures lines { IsErrOf result ReportFault.Memory → WroteWholeLines showing.old.by_texts content each.old.reader.settings pointer.now (S.remaining reader.old) (S.remaining reader.new) (W.contents writer.old) (W.contents writer.new) }
+    ensures beginning { IsErrOf result ReportFault.Write → WroteLinesInPart showing.old.by_texts content each.old.reader.settings pointer.now (S.remaining reader.old) (S.remaining reader.new) (W.contents writer.old) (W.contents writer.new) }
     ensures uncut { IfErr result (λ fault. fault ≢ ReportFault.Pieces) }
 {
     lines_taken_and_waiting();
     for _ in 0..u64::MAX {
         match reader.read(buffer) {
             Ok(0) => return Ok(()),
-            Ok(count) => write_due(crew, writer, each, sought, &buffer[..count], piece)?,
+            Ok(count) => write_due(crew, writer, each, sought, showing, &buffer[..count], piece)?,
             Err(_) => return Err(ReportFault::Read),
         }
     }
@@ -104,6 +110,60 @@ fn room_for<R, G>(crew: &Crew<'_, R, G>) -> usize
     } else {
         STEP
     }
+}
+
+/// Reads to the end of input, and writes and reports what `report_elements` says, or the texts of the lines.
+fn report_lines<R: Threads + Wait + Sync, S: Source, W: Sink, E: Sink, G: Gate + Sync>(
+    crew: &Crew<'_, R, G>,
+    reader: &mut S,
+    writer: &mut W,
+    errors: &mut E,
+    settings: &Settings,
+    content: LineContent,
+    by_texts: bool,
+    pointer: &str,
+    piece: usize,
+) -> Result<Exit, ReportFault>
+    requires pointer { IsPointer pointer.now }
+    requires reader { S.has_failed reader.old ≡ false }
+    requires writer { W.has_failed writer.old ≡ false }
+    ensures ok { IfOk result (λ exit. ReportsLines by_texts content settings.now pointer.now (S.remaining reader.old) (S.remaining reader.new)
+        (W.contents writer.old) (W.contents writer.new) (E.has_failed errors.new) (E.contents errors.old) (E.contents errors.new) exit) }
+    ensures read { IsErrOf result ReportFault.Read ↔ (S.has_failed reader.new ≡ true) }
+    ensures write { IsErrOf result ReportFault.Write ↔ (W.has_failed writer.new ≡ true) }
+    ensures untold { OnErr result (errors.new ≡ errors.old) }
+    ensures due { IsErrOf result ReportFault.Read → WroteLinesDue by_texts content settings.now pointer.now (S.remaining reader.old) (S.remaining reader.new)
+        (W.contents writer.old) (W.contents writer.new) }
+    ensures lines { IsErrOf result ReportFault.Memory → WroteWholeLines by_texts content settings.now pointer.now (S.remaining reader.old) (S.remaining reader.new)
+        (W.contents writer.old) (W.contents writer.new) }
+    ensures beginning { IsErrOf result ReportFault.Write → WroteLinesInPart by_texts content settings.now pointer.now (S.remaining reader.old) (S.remaining reader.new)
+        (W.contents writer.old) (W.contents writer.new) }
+    ensures uncut { IfErr result (λ fault. fault ≢ ReportFault.Pieces) }
+{
+    lines_due_of_no_byte();
+    lines_taken_and_waiting();
+    let alloc = crew.alloc;
+    let mut each = Each::with_content(alloc, settings, pointer, content)?;
+    let pointers = pointers_of(alloc, content, pointer)?;
+    let mut sought = sought_at_start(alloc, settings, pointers)?;
+    let mut showing = Showing::new(alloc, by_texts);
+    let mut buffer: Vec<u8> = vec![in alloc; 0; room_for(crew)]?;
+    write_all_due(
+        crew,
+        reader,
+        writer,
+        &mut each,
+        &mut sought,
+        &mut showing,
+        content,
+        pointer,
+        &mut buffer,
+        piece.max(1),
+    )?;
+    let said = told_of_elements(alloc, content, pointer, &each, verdict_of(&each), sought)?;
+    let told = told_with_lone(alloc, pointer, showing.has_lone, said)?;
+    tell(errors, &told);
+    Ok(exit_by(&told))
 }
 
 /// Reads to the end of input, and writes a line for each element of the array that a pointer leads to, by the first
@@ -151,25 +211,52 @@ pub fn report_elements<R: Threads + Wait + Sync, S: Source, W: Sink, E: Sink, G:
         (W.contents writer.old) (W.contents writer.new) }
     ensures uncut { IfErr result (λ fault. fault ≢ ReportFault.Pieces) }
 {
-    lines_due_of_no_byte();
-    lines_taken_and_waiting();
-    let alloc = crew.alloc;
-    let mut each = Each::with_content(alloc, settings, pointer, content)?;
-    let pointers = pointers_of(alloc, content, pointer)?;
-    let mut sought = sought_at_start(alloc, settings, pointers)?;
-    let mut buffer: Vec<u8> = vec![in alloc; 0; room_for(crew)]?;
-    write_all_due(
+    report_lines(
+        crew, reader, writer, errors, settings, content, false, pointer, piece,
+    )
+}
+
+/// As `report_elements` with `LineContent::NameAlone`, but of each name it writes the text that it stands for (RFC 8259,
+/// section 7), so that one with line feeds takes several lines. A name that has half of a surrogate pair alone stands for none, and
+/// has an empty line. That is reported too, once, before what else is.
+pub fn report_name_texts<R: Threads + Wait + Sync, S: Source, W: Sink, E: Sink, G: Gate + Sync>(
+    crew: &Crew<'_, R, G>,
+    reader: &mut S,
+    writer: &mut W,
+    errors: &mut E,
+    settings: &Settings,
+    pointer: &str,
+    piece: usize,
+) -> Result<Exit, ReportFault>
+    requires pointer { IsPointer pointer.now }
+    requires reader { S.has_failed reader.old ≡ false }
+    requires writer { W.has_failed writer.old ≡ false }
+    // All that the reader had was read, and its whole output was written and told.
+    ensures ok { IfOk result (λ exit. ReportsLines true NameAlone settings.now pointer.now (S.remaining reader.old) (S.remaining reader.new)
+        (W.contents writer.old) (W.contents writer.new) (E.has_failed errors.new) (E.contents errors.old) (E.contents errors.new) exit) }
+    ensures read { IsErrOf result ReportFault.Read ↔ (S.has_failed reader.new ≡ true) }
+    ensures write { IsErrOf result ReportFault.Write ↔ (W.has_failed writer.new ≡ true) }
+    // After each fault nothing was reported.
+    ensures untold { OnErr result (errors.new ≡ errors.old) }
+    // After a read fault what is due of the bytes read was written, after a refusal of memory whole lines of that, and after a
+    // write fault a beginning of it.
+    ensures due { IsErrOf result ReportFault.Read → WroteLinesDue true NameAlone settings.now pointer.now (S.remaining reader.old) (S.remaining reader.new)
+        (W.contents writer.old) (W.contents writer.new) }
+    ensures lines { IsErrOf result ReportFault.Memory → WroteWholeLines true NameAlone settings.now pointer.now (S.remaining reader.old) (S.remaining reader.new)
+        (W.contents writer.old) (W.contents writer.new) }
+    ensures beginning { IsErrOf result ReportFault.Write → WroteLinesInPart true NameAlone settings.now pointer.now (S.remaining reader.old) (S.remaining reader.new)
+        (W.contents writer.old) (W.contents writer.new) }
+    ensures uncut { IfErr result (λ fault. fault ≢ ReportFault.Pieces) }
+{
+    report_lines(
         crew,
         reader,
         writer,
-        &mut each,
-        &mut sought,
-        content,
+        errors,
+        settings,
+        LineContent::NameAlone,
+        true,
         pointer,
-        &mut buffer,
-        piece.max(1),
-    )?;
-    let told = told_of_elements(alloc, content, pointer, &each, verdict_of(&each), sought)?;
-    tell(errors, &told);
-    Ok(exit_by(&told))
+        piece,
+    )
 }

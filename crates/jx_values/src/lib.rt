@@ -14,6 +14,7 @@ mod putting;
 mod raw;
 mod reply;
 mod reporting;
+mod showing;
 mod sought;
 mod tally;
 mod telling;
@@ -22,7 +23,7 @@ mod value_reader;
 mod writing;
 
 pub use counting::report_count;
-pub use elements::report_elements;
+pub use elements::{report_elements, report_name_texts};
 pub use form::Form;
 pub use laws::compact_tree;
 pub use reporting::report_values;

@@ -1,9 +1,8 @@
 // The report on a text, or of pointers for which nothing is written.
 ghost use Rattle.std.specs.Prelude.{◌≡◌, ◌<◌, ◌++◌, Some, false, codes, length, map, slice_get, string_bytes, IfOk, OnOk};
 ghost use Rattle.std.specs.Io.KnownBytes.{Appends};
-ghost use Rattle.jx_words.specs.Showing.{shown};
 ghost use Rattle.jx_words.specs.Words.{line, refusal_words};
-ghost use Rattle.jx_values.specs.Values.{exit_by, told_line, told_lines, told_of_value, value_written};
+ghost use Rattle.jx_values.specs.Values.{exit_by, shown_pointer, told_line, told_lines, told_of_value, value_written};
 
 use crate::form::Form;
 use crate::value::{bytes_at, is_written};
@@ -22,11 +21,21 @@ pub fn told_of_refusal(alloc: Global, refusal: Refusal) -> Result<Vec<u8>, Alloc
     Ok(told)
 }
 
+/// A pointer as it is shown: one without a byte, which leads to the whole text, as two quotation marks.
+fn shown_pointer(alloc: Global, pointer: &str) -> Result<Vec<u8>, AllocError>
+    ensures { IfOk result (λ name. name.items ≡ shown_pointer pointer.now) }
+{
+    if pointer.is_empty() {
+        return Vec::from_slice(alloc, b"''");
+    }
+    shown_name(alloc, pointer)
+}
+
 /// Appends the pointer as it is shown, a colon and a space.
 pub(crate) fn add_front(told: &mut Vec<u8>, pointer: &str) -> Result<(), AllocError>
-    ensures { OnOk result (told.new.items ≡ told.old.items ++ (shown pointer.now ++ codes ": ")) }
+    ensures { OnOk result (told.new.items ≡ told.old.items ++ (shown_pointer pointer.now ++ codes ": ")) }
 {
-    let name = shown_name(*told.allocator(), pointer)?;
+    let name = shown_pointer(*told.allocator(), pointer)?;
     told.extend_from_slice(&name)?;
     told.extend_from_slice(b": ")
 }

@@ -17,7 +17,8 @@ pub fn push_order(out: &mut Out, order: &Order<'_>) {
         Order::Values(order) => push_values(out, order),
         Order::Each(order) => push_each(out, order),
         Order::Lines(order) => push_lines(out, order),
-        Order::Live(order) => push_live(out, order),
+        Order::Live(order) => push_live(out, "seq, live", order),
+        Order::Texts(order) => push_live(out, "texts", order),
         Order::Save(order) => push_save(out, order),
         Order::Split(order) => push_split(out, order),
     }
@@ -124,7 +125,7 @@ fn push_values(out: &mut Out, order: &ValuesOrder) {
 fn push_each(out: &mut Out, order: &EachOrder) {
     let command = match order.form {
         EachForm::Values | EachForm::Members => "each ",
-        EachForm::Names => "keys ",
+        EachForm::Names | EachForm::NameTexts => "keys ",
         EachForm::Count => "count ",
     };
     push_file(out, command, order.pointer);
@@ -132,6 +133,9 @@ fn push_each(out: &mut Out, order: &EachOrder) {
     push_workers(out, order.workers, order.piece);
     if order.form == EachForm::Members {
         out.push_str(", names");
+    }
+    if order.form == EachForm::NameTexts {
+        out.push_str(", raw");
     }
     push_inputs(out, &Inputs::One(order.input));
     push_progress(out, order.progress);
@@ -171,8 +175,8 @@ fn push_pass(out: &mut Out, pass: Option<PassOrder>) {
     }
 }
 
-fn push_live(out: &mut Out, order: &LiveOrder) {
-    out.push_str("seq, live");
+fn push_live(out: &mut Out, name: &str, order: &LiveOrder) {
+    out.push_str(name);
     push_settings(out, &order.settings);
     if order.is_quiet {
         out.push_str(", quiet");

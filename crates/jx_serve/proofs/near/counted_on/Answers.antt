@@ -1,7 +1,3 @@
-use Rattle.std.proofs.Common.{◌≡◌, ℕ, List}
-use Rattle.std.specs.Prelude.{IfSome, Option}
-use Rattle.jx_edit.specs.Positions.{position_at, position_behind}
-use Rattle.jx_edit.specs.declared.positions.position.Position.{Position}
 use Rattle.jx_serve.proofs.Nearby.{near_some}
 use Rattle.jx_serve.proofs.near.counted_on.Goals as goal
 

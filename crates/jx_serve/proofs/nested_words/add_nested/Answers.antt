@@ -1,4 +1,4 @@
-use Rattle.std.proofs.Common.{ap, ◌∙◌, ◌++◌, length, sym, subst, true, ◌≡◌}
+use Rattle.std.proofs.Common.{ap, ◌∙◌, ◌++◌, length, sym}
 use Rattle.jx_serve.specs.inside.Sound.{list_head}
 use Rattle.jx_serve.proofs.Opens.{both_true, open_first}
 use Rattle.jx_serve.proofs.Texts.{answered}

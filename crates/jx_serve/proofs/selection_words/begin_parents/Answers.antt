@@ -1,4 +1,4 @@
-use Rattle.std.proofs.Common.{◌≡◌, ◌-◌, ℕ, List, arith, length, suc, subst}
+use Rattle.std.proofs.Common.{◌≡◌, ◌-◌, ℕ, arith, length, suc, subst}
 use Rattle.jx_serve.specs.inside.Sound.{AreRanges}
 use Rattle.jx_serve.proofs.Ranges.{outer_range}
 use Rattle.jx_serve.proofs.selection_words.begin_parents.Goals as goal

@@ -1,5 +1,4 @@
-use Rattle.std.proofs.Common.{◌≡◌, ◌++◌, ◌∙◌, ap}
-use Rattle.jx_serve.specs.inside.Sound.{kind_member}
+use Rattle.std.proofs.Common.{◌++◌, ◌∙◌, ap}
 use Rattle.jx_serve.proofs.Texts.{added_named}
 use Rattle.jx_serve.proofs.symbol_words.add_named.Goals as goal
 

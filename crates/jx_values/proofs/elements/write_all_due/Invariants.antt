@@ -8,5 +8,5 @@ invariant-loop g l = record {
   reader : g.S.Source.has_failed l.reader ≡ false;
   writer : g.W.Sink.has_failed l.writer ≡ false;
   settings : l.each.reader.settings ≡ l.initial.each.reader.settings;
-  written : IsWritten l.fn.content l.pointer (g.S.Source.remaining l.initial.reader) (g.S.Source.remaining l.reader) (g.W.Sink.contents l.initial.writer) (g.W.Sink.contents l.writer) l.each l.sought;
+  written : IsWritten l.initial.showing.by_texts l.fn.content l.pointer (g.S.Source.remaining l.initial.reader) (g.S.Source.remaining l.reader) (g.W.Sink.contents l.initial.writer) (g.W.Sink.contents l.writer) l.each l.sought l.showing;
 }

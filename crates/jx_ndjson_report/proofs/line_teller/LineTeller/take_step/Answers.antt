@@ -24,4 +24,4 @@ returns-clause-taken c = λ bytes given h.
     let step = c.in_ok-taken.ensures.within in
     let low : m ≤ length slice - n = omega (arith, long, step) in
     subst (λ (xs : List ℕ). HasTaken c.args.task.now xs given c.take_line.new.self) (one_step bytes slice n m within low)
-    (c.in_ok-taken.ensures.taken (bytes ++ take n slice) given (c.in_ok-passed.ensures.taken bytes given h))
+    (c.in_ok-taken.ensures.taken (bytes ++ take n slice) given (c.in_ok-passed.ensures.taken bytes given h).taken.0)

@@ -1,4 +1,4 @@
-use Rattle.std.proofs.Common.{◌≡◌, ◌∙◌, ap, inr, refl, subst, sym}
+use Rattle.std.proofs.Common.{◌∙◌, ap, inr, refl, subst, sym}
 use Rattle.jx_serve.specs.Served.{IsHoverIn, OpenValue}
 use Rattle.jx_serve.specs.declared.reply.Reply.{Reply}
 use Rattle.jx_serve.proofs.ValuesAt.{none_shown, some_shown}

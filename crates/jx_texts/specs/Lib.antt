@@ -1,0 +1,4 @@
+pub mod Output
+pub mod Reading
+pub mod Texts
+pub mod inside

@@ -1,0 +1,3 @@
+-- Definitions that only the contracts of this crate's own functions cite.
+pub mod Steps
+pub mod TextTeller
