@@ -58,6 +58,7 @@ jx.1 | A regular FILE of a MiB or more is read by workers, each for itself. | gi
 jx.1 | What is due is written after 16 MiB at most, or 64 chunks of another size. | memory - 40000 | refused.120000000 | lines --workers 4
 jx.1 | What is due is written after 16 MiB at most, or 64 chunks of another size. | memory - 90000 | bad.20000000 | lines --workers 4
 jx.1 | A read of a pipe mostly gives less, and then one worker reads. | threads 0 0 | cat lines.20000000 | lines --workers 4 -q
+docs/PERFORMANCE.md | batches, and 32 bytes an element | memory - 8000 | text.20000000 | seq --workers 1 -q
 jx.1 | One worker reads, and no element is kept in memory. | threads 0 0 | seq.20000000 | seq --live
 jx.1 | One worker reads, and no element is kept in memory. | memory - 8000 | seq.20000000 | seq --live
 jx.1 | Up to 64 pointers, only their values are kept in memory. | memory - 8000 | text.20000000 | get /1 /2 /1
