@@ -16,7 +16,7 @@ use Rattle.jx_reduce.specs.declared.table.whole.Whole.TheVariants as whole
 use Rattle.jx_reduce.specs.KnownStack.{Known, IsFault}
 use Rattle.jx_reduce.specs.Read.{Reading, step, read as read_marks}
 use Rattle.jx_reduce.specs.Whole.{whole_of}
-use Rattle.jx_run.specs.Reader.{Outcome, in_front, reads}
+use Rattle.jx_run.specs.Reader.{Outcome, in_front, reads, expect_behind, state_behind}
 use Rattle.jx_run.specs.ReaderInside.{outcome_at}
 use Rattle.jx_run.specs.Reading as text
 use Rattle.jx_run.specs.Telling.{AwaitsBehind}
@@ -27,7 +27,7 @@ use Rattle.jx_reduce.proofs.KnownMoves.{read-fault}
 use Rattle.jx_run.proofs.ReaderSteps.{stuck}
 use Rattle.jx_run.proofs.Tellings.{read_more}
 use Rattle.jx_file_index.specs.declared.sum.Sum.{Sum}
-use Rattle.jx_file_index.specs.Chunks.{expect_behind, has_some, state_behind}
+use Rattle.jx_file_index.specs.Chunks.{has_some}
 use Rattle.jx_file_index.specs.Sums.{noted, nothing}
 use Rattle.jx_file_build.specs.inside.Tallied.{HasTallied, Tells}
 

@@ -1,12 +1,12 @@
 // A chunk that is read once after all bytes before it: its entry, and its names where these are asked for.
 ghost use Rattle.std.specs.Prelude.{◌≡◌, ◌+◌, ◌*◌, ◌<◌, ◌≤◌, ◌^◌, ◌++◌, ℕ, Bool, List, Some, suc, false, length, IfOk};
-ghost use Rattle.jx_run.specs.Reader.{Outcome, is_fault};
+ghost use Rattle.jx_run.specs.Reader.{Outcome, is_fault, expect_behind, state_behind};
 ghost use Rattle.jx_run.specs.ReaderInside.{IsCut, IsOfUse, IsReadTo, outcome_at};
 ghost use Rattle.jx_run.specs.Telling.{track_of};
 ghost use Rattle.jx_run.specs.declared.texts.settings.FrontMark.{FrontMark};
 ghost use Rattle.jx_run.specs.declared.texts.settings.Settings.{Settings};
 ghost use Rattle.jx_index.specs.inside.InTurn.{IsInTurn};
-ghost use Rattle.jx_file_index.specs.Chunks.{entry_behind, expect_behind, state_behind};
+ghost use Rattle.jx_file_index.specs.Chunks.{entry_behind};
 ghost use Rattle.jx_file_build.specs.inside.ChunkNames.{IsTold};
 ghost use Rattle.jx_file_build.specs.inside.NamedChunks.{AreBegun, AreFit, AreNamesAt};
 ghost use Rattle.jx_file_build.specs.inside.Tallied.{Tells};

@@ -1,13 +1,8 @@
 -- The chunks of a text, and what is kept of each.
 use Rattle.std.specs.Prelude.{ℕ, zero, suc, ◌+◌, ◌*◌, ◌<◌, ◌≤◌, List, [], ◌∷◌, ◌++◌, Bool, true, false, IsTrue, take, drop}
 use Rattle.std.specs.Int.{is_power_of_two}
-use Rattle.jx_lex.specs.declared.alphabet.state.LexState.{LexState}
-use Rattle.jx_lex.specs.declared.alphabet.state.LexState.TheVariants.{Gap}
-use Rattle.jx_reduce.specs.declared.table.expect.Expect.{Expect}
-use Rattle.jx_reduce.specs.declared.table.expect.Expect.TheVariants.{Value}
 use Rattle.jx_run.specs.declared.texts.settings.Settings.{Settings}
-use Rattle.jx_run.specs.Reader.{Outcome, in_front, reads, read_by}
-use Rattle.jx_run.specs.Reading.{went, stopped, too_deep}
+use Rattle.jx_run.specs.Reader.{Outcome, read_by, state_behind, expect_behind}
 use Rattle.jx_run.specs.Telling.{track_of}
 use Rattle.jx_file_index.specs.declared.entry.Entry.{Entry}
 use Rattle.jx_file_index.specs.Digest.{xxh64}
@@ -33,20 +28,6 @@ pub record IsCount (size long n : ℕ) : Type 0 where
 -- a power of two, from 64 to 1,048,576
 abbrev pub IsChunkSize : ℕ → Type 0
 IsChunkSize n = (64 ≤ n) × (n ≤ 1048576) × IsTrue (is_power_of_two n)
-
--- the lexical state after what was read; in front of a text it is that between tokens
-abbrev pub state_behind : Outcome → LexState
-state_behind (in_front n) = Gap
-state_behind (reads (went s e o)) = s
-state_behind (reads (stopped at)) = Gap
-state_behind (reads (too_deep at)) = Gap
-
--- the tokens that may stand next; in front of a text a value
-abbrev pub expect_behind : Outcome → Expect
-expect_behind (in_front n) = Value
-expect_behind (reads (went s e o)) = e
-expect_behind (reads (stopped at)) = Value
-expect_behind (reads (too_deep at)) = Value
 
 -- the entry of a chunk, by what the bytes before it lead to: its tokens are those that are read from there
 abbrev pub entry_behind : Outcome → List ℕ → Entry

@@ -17,7 +17,7 @@ use Rattle.jx_run.specs.declared.texts.settings.FrontMark.{FrontMark}
 use Rattle.jx_run.specs.declared.texts.settings.FrontMark.TheVariants as on_mark
 use Rattle.jx_run.specs.declared.texts.settings.Settings.{Settings}
 use Rattle.jx_run.specs.Front.{agreed}
-use Rattle.jx_run.specs.Reader.{Outcome, in_front, reads, read_by}
+use Rattle.jx_run.specs.Reader.{Outcome, in_front, reads, read_by, state_behind}
 use Rattle.jx_run.specs.Reading.{went, stopped, read_text}
 use Rattle.jx_run.specs.Settings.{byte_order_mark}
 use Rattle.std.proofs.Math.Nat.{suc-mul}
@@ -26,7 +26,7 @@ use Rattle.jx_run.proofs.Fronts.{agreed_short}
 use Rattle.jx_run.proofs.InTurn.{InPieces}
 use Rattle.jx_run.proofs.ReaderFeeds.{Case, cases, whole, part as part_of_mark, none as no_mark, cut, by_cut, by_none, by_part, by_whole}
 use Rattle.jx_index.specs.inside.Building.{is_token}
-use Rattle.jx_file_index.specs.Chunks.{before, part, state_behind}
+use Rattle.jx_file_index.specs.Chunks.{before, part}
 use Rattle.jx_file_index.specs.Named.{AreNamed, none as none_named, more, reading_before, track_at}
 use Rattle.jx_file_index.specs.Names.{NamesOf, none, plain, token, ended}
 use Rattle.jx_file_query.specs.inside.Members.{begun_at}

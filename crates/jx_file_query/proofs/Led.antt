@@ -26,7 +26,8 @@ use Rattle.jx_index.specs.inside.Trie.{IsNextIn, child_at, is_name_next, seek_al
 use Rattle.jx_find.specs.declared.held.Sought.{Sought}
 use Rattle.jx_file_index.specs.declared.entry.Entry.{Entry}
 use Rattle.jx_file_index.specs.declared.sum.Sum.{Sum}
-use Rattle.jx_file_index.specs.Chunks.{before, expect_behind, part, state_behind}
+use Rattle.jx_run.specs.Reader.{expect_behind, state_behind}
+use Rattle.jx_file_index.specs.Chunks.{before, part}
 use Rattle.jx_file_index.specs.Sums.{nothing, sum_of}
 use Rattle.jx_file_index.specs.Named.{AreNamed, reading_before, track_at}
 use Rattle.jx_file_index.specs.Names.{NamesOf, none, plain, token, ended}

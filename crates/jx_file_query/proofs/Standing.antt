@@ -15,7 +15,7 @@ use Rattle.jx_reduce.specs.Read.{Reading, read as read_marks}
 use Rattle.jx_run.specs.declared.texts.settings.FrontMark.{FrontMark}
 use Rattle.jx_run.specs.declared.texts.settings.FrontMark.TheVariants as on_mark
 use Rattle.jx_run.specs.Front.{agreed}
-use Rattle.jx_run.specs.Reader.{Outcome, in_front, reads, is_fault, read_by}
+use Rattle.jx_run.specs.Reader.{Outcome, in_front, reads, is_fault, read_by, state_behind}
 use Rattle.jx_run.specs.Reading.{went, stopped, too_deep, at_exit, read, read_text}
 use Rattle.jx_run.specs.Settings.{byte_order_mark}
 use Rattle.jx_run.specs.Telling.{AwaitsBehind, at_start, tokens_by}
@@ -23,7 +23,6 @@ use Rattle.jx_run.proofs.Fronts.{agreed_short}
 use Rattle.jx_run.proofs.InTurn.{faults_stay}
 use Rattle.jx_run.proofs.ReaderFeeds.{Case, cases, whole, part, none, cut, at_front, by_cut, by_none, by_part, by_whole, goes_on_by}
 use Rattle.jx_run.proofs.Tellings.{front_none, front_whole}
-use Rattle.jx_file_index.specs.Chunks.{state_behind}
 
 abbrev pub Goes : FrontMark → ℕ → List ℕ → Type 0
 Goes m limit bytes = is_fault (Some (read_by m limit 0 bytes)) ≡ false

@@ -9,7 +9,7 @@ use Rattle.jx_lex.specs.Lex.{lex, Track}
 use Rattle.jx_lex.specs.TokenStates.{in_token}
 use Rattle.jx_run.specs.declared.texts.settings.FrontMark.{FrontMark}
 use Rattle.jx_run.specs.declared.texts.settings.Settings.{Settings}
-use Rattle.jx_run.specs.Reader.{Outcome, is_fault, read_by}
+use Rattle.jx_run.specs.Reader.{Outcome, is_fault, read_by, state_behind}
 use Rattle.jx_run.specs.Telling.{moved_ends, moved_marks, tokens_by, track_of}
 use Rattle.jx_run.proofs.InTurn.{InPieces, in_turn}
 use Rattle.jx_index.specs.declared.finder.State.{State}
@@ -18,7 +18,7 @@ use Rattle.jx_index.specs.inside.Found.{finding}
 use Rattle.jx_find.specs.declared.held.Sought.{Sought}
 use Rattle.jx_find.specs.Held.{IsHeld}
 use Rattle.jx_file_index.specs.declared.entry.Entry.{Entry}
-use Rattle.jx_file_index.specs.Chunks.{before, part, state_behind}
+use Rattle.jx_file_index.specs.Chunks.{before, part}
 use Rattle.jx_file_query.specs.declared.walk_passing.Over.{Over}
 use Rattle.jx_file_query.specs.HeldAt.{IsHeldAt}
 use Rattle.jx_file_query.specs.inside.Over.{LeadsOver, finding_over}

@@ -13,7 +13,8 @@ use Rattle.jx_index.specs.inside.Found.{finding}
 use Rattle.jx_find.specs.declared.held.Sought.{Sought}
 use Rattle.jx_file_index.specs.declared.entry.Entry.{Entry}
 use Rattle.jx_file_index.specs.declared.index.Index.{Index}
-use Rattle.jx_file_index.specs.Chunks.{before, entry_behind, part, state_behind}
+use Rattle.jx_run.specs.Reader.{state_behind}
+use Rattle.jx_file_index.specs.Chunks.{before, entry_behind, part}
 use Rattle.jx_file_query.specs.declared.blocks.Block.{Block}
 use Rattle.jx_file_query.specs.declared.walk_passing.Over.{Over}
 use Rattle.jx_file_query.specs.Chunks.{chunk_at}

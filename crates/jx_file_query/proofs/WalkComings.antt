@@ -7,12 +7,12 @@ use Rattle.jx_lex.specs.Lex as lexical
 use Rattle.jx_lex.specs.Lex.{lex}
 use Rattle.jx_summary.specs.declared.span.Span.{Span}
 use Rattle.jx_run.specs.declared.texts.settings.Settings.{Settings}
-use Rattle.jx_run.specs.Reader.{HasRead, Outcome, ReaderValue, read_by}
+use Rattle.jx_run.specs.Reader.{HasRead, Outcome, ReaderValue, read_by, state_behind}
 use Rattle.jx_run.specs.Telling.{at_start}
 use Rattle.jx_run.proofs.InTurn.{InPieces}
 use Rattle.jx_file_index.specs.declared.entry.Entry.{Entry}
 use Rattle.jx_file_index.specs.declared.index.Index.{Index}
-use Rattle.jx_file_index.specs.Chunks.{before, part, state_behind}
+use Rattle.jx_file_index.specs.Chunks.{before, part}
 use Rattle.jx_file_query.specs.Chunks.{chunk_at}
 use Rattle.jx_file_query.specs.Known.{IsKnown}
 use Rattle.jx_file_query.proofs.Chunkings.{chunk_is, entry, part_taken, stands_at}

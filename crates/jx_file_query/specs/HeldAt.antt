@@ -6,7 +6,8 @@ use Rattle.jx_run.specs.Telling.{tokens_by}
 use Rattle.jx_index.specs.declared.trie.Edge.{Edge}
 use Rattle.jx_find.specs.declared.held.Sought.{Sought}
 use Rattle.jx_find.specs.Held.{IsHeld}
-use Rattle.jx_file_index.specs.Chunks.{before, state_behind}
+use Rattle.jx_run.specs.Reader.{state_behind}
+use Rattle.jx_file_index.specs.Chunks.{before}
 
 -- of so many; a token is kept just where their reading stands inside one
 pub record IsHeldTo (settings : Settings) (text : List ℕ) (edges : List Edge) (count : ℕ) (h : Sought) : Type 0 where

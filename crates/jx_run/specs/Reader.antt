@@ -1,5 +1,9 @@
 -- A reader of a text from its start as contracts see it.
 use Rattle.std.specs.Prelude.{◌≡◌, ◌==◌, ℕ, ◌+◌, List, length, drop, Option, Some, None, Bool, true, false, if◌then◌else◌}
+use Rattle.jx_lex.specs.declared.alphabet.state.LexState.{LexState}
+use Rattle.jx_lex.specs.declared.alphabet.state.LexState.TheVariants.{Gap}
+use Rattle.jx_reduce.specs.declared.table.expect.Expect.{Expect}
+use Rattle.jx_reduce.specs.declared.table.expect.Expect.TheVariants.{Value}
 use Rattle.jx_run.specs.declared.texts.settings.FrontMark.{FrontMark}
 use Rattle.jx_run.specs.declared.texts.settings.FrontMark.TheVariants as on_mark
 use Rattle.jx_run.specs.declared.texts.settings.Settings.{Settings}
@@ -58,3 +62,17 @@ is_fault (Some (reads (went s e o))) = false
 is_fault (Some (reads (stopped at))) = true
 is_fault (Some (reads (too_deep at))) = true
 is_fault None = false
+
+-- the lexical state after what was read; in front of a text it is that between tokens
+abbrev pub state_behind : Outcome → LexState
+state_behind (in_front n) = Gap
+state_behind (reads (went s e o)) = s
+state_behind (reads (stopped at)) = Gap
+state_behind (reads (too_deep at)) = Gap
+
+-- the tokens that may stand next; in front of a text a value
+abbrev pub expect_behind : Outcome → Expect
+expect_behind (in_front n) = Value
+expect_behind (reads (went s e o)) = e
+expect_behind (reads (stopped at)) = Value
+expect_behind (reads (too_deep at)) = Value

@@ -1,11 +1,11 @@
 -- The entries of an index for blocks of chunks.
 use Rattle.std.specs.Prelude.{◌≡◌, ◌+◌, ◌*◌, ◌<◌, ◌≤◌, ℕ, List, length, drop, slice_get, Some}
 use Rattle.jx_run.specs.declared.texts.settings.Settings.{Settings}
-use Rattle.jx_run.specs.Reader.{Outcome}
+use Rattle.jx_run.specs.Reader.{Outcome, expect_behind, state_behind}
 use Rattle.jx_run.specs.Telling.{track_of}
 use Rattle.jx_file_index.specs.declared.entry.Entry.{Entry}
 use Rattle.jx_file_index.specs.declared.index.Index.{Index}
-use Rattle.jx_file_index.specs.Chunks.{IsCount, before, expect_behind, has_some, part, state_behind}
+use Rattle.jx_file_index.specs.Chunks.{IsCount, before, has_some, part}
 use Rattle.jx_file_index.specs.Index.{AreLevels}
 use Rattle.jx_file_index.specs.Sums.{sum_of}
 use Rattle.jx_file_query.specs.declared.blocks.Block.{Block}

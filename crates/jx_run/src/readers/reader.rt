@@ -7,7 +7,7 @@ ghost use Rattle.jx_lex.specs.Seen.{SeesTrack};
 ghost use Rattle.jx_reduce.specs.KnownStack.{HasRead as StackHasRead, IsFault};
 ghost use Rattle.jx_reduce.specs.Read.{read as read_marks};
 ghost use Rattle.jx_run.specs.OutcomeRun.{IsOutcomeRun};
-ghost use Rattle.jx_run.specs.Reader.{HasRead, HasFailed, IsInFront, Outcome as CameTo, is_fault};
+ghost use Rattle.jx_run.specs.Reader.{HasRead, HasFailed, IsInFront, Outcome as CameTo, expect_behind, is_fault, state_behind};
 ghost use Rattle.jx_run.specs.Settings.{JudgedBy};
 ghost use Rattle.jx_run.specs.Telling.{AwaitsBehind, SeesPast, standing_of, track_of};
 
@@ -20,7 +20,7 @@ use crate::runs::outcome_run::OutcomeRun;
 use crate::texts::settings::Settings;
 use crate::texts::verdict::{Refusal, Verdict};
 use jx_lex::{LexExit, LexState, TokenSink};
-use jx_reduce::{KnownStack, Outcome, Whole};
+use jx_reduce::{Expect, KnownStack, Outcome, Whole};
 use jx_summary::Summary;
 use std::alloc::{AllocError, Global};
 use std::marker::Model;
@@ -224,6 +224,17 @@ impl Reader {
         ensures { IsTrue result ↔ IsInFront self.now }
     {
         matches!(self.progress, Progress::Front(_))
+    }
+
+    /// The lexical state after all bytes that it has read, and the tokens that may stand next. In front of a text, and
+    /// after a fault, these are the state between tokens, and a value.
+    pub fn standing(&self) -> (LexState, Expect)
+        ensures { (now : CameTo) → self.now.outcome ≡ Some now → (result.0 ≡ state_behind now) × (result.1 ≡ expect_behind now) }
+    {
+        match (self.progress, self.stack.whole()) {
+            (Progress::Going(state), Whole::Went { expect, .. }) => (state, expect),
+            _ => (LexState::Gap, Expect::Value),
+        }
     }
 
     /// Reads the bytes of a run after all bytes that it has read, where no byte order mark may stand among them. The

@@ -2,10 +2,10 @@ use Rattle.std.proofs.Common.{◌≡◌, ◌+◌, ◌*◌, ◌≤◌, ℕ, suc, 
 use Rattle.jx_lex.specs.Lex.{lex}
 use Rattle.jx_lex.specs.TokenStates.{in_token}
 use Rattle.jx_run.specs.declared.texts.settings.Settings.{Settings}
-use Rattle.jx_run.specs.Reader.{is_fault, read_by}
+use Rattle.jx_run.specs.Reader.{is_fault, read_by, state_behind}
 use Rattle.jx_run.specs.Telling.{tokens_by}
 use Rattle.jx_file_index.specs.declared.entry.Entry.{Entry}
-use Rattle.jx_file_index.specs.Chunks.{before, state_behind}
+use Rattle.jx_file_index.specs.Chunks.{before}
 use Rattle.jx_file_query.specs.HeldAt.{IsHeldAt}
 use Rattle.jx_file_query.proofs.Chunkings.{entry_is, kept_some}
 use Rattle.jx_file_query.proofs.WalkComings.{base_is, inside, later_exit, none_weaker, piece_is, some_both}
