@@ -39,3 +39,4 @@ pub mod InPlace
 pub mod MarksAlone
 pub mod Tellings
 pub mod InTurn
+pub mod Standing

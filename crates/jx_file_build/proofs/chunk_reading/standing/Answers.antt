@@ -1,4 +1,4 @@
-use Rattle.jx_file_build.proofs.Tallies.{standing_went}
+use Rattle.jx_run.proofs.Standing.{standing_went}
 use Rattle.jx_file_build.proofs.chunk_reading.standing.Goals as goal
 
 pub returns-in-Going-Went : goal.returns-in-Going-Went
