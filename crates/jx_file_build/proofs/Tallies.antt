@@ -1,5 +1,5 @@
 -- What is tallied, token by token.
-use Rattle.std.proofs.Common.{◌≡◌, ℕ, List, [], ◌∷◌, ◌++◌, length, refl, sym, ◌∙◌, ap, subst, append_assoc, Option, Bool, true, None, Some}
+use Rattle.std.proofs.Common.{◌≡◌, ℕ, List, [], ◌∷◌, ◌++◌, refl, sym, ◌∙◌, ap, subst, append_assoc, Option, Bool, true, None, Some}
 use Rattle.std.specs.Prelude.{IfSome}
 use Rattle.std.proofs.lemmas.List.Sums.{fold-append}
 use Rattle.jx_lex.specs.declared.alphabet.lex_exit.LexExit.{LexExit}
@@ -7,21 +7,13 @@ use Rattle.jx_lex.specs.declared.alphabet.lex_exit.LexExit.TheVariants as exit
 use Rattle.jx_lex.specs.declared.alphabet.mark.Mark.{Mark}
 use Rattle.jx_lex.specs.declared.alphabet.mark.MarkKind.{MarkKind}
 use Rattle.jx_lex.specs.declared.alphabet.mark.MarkKind.TheVariants as kind
-use Rattle.jx_lex.specs.declared.alphabet.state.LexState.{LexState}
 use Rattle.jx_lex.specs.Seen.{Awaits, AwaitsAt, Grows, Seen, WantsNoMore, has_end}
 use Rattle.jx_lex.proofs.Keeping.{grows-then}
-use Rattle.jx_reduce.specs.declared.table.expect.Expect.{Expect}
-use Rattle.jx_reduce.specs.declared.table.whole.Whole.{Whole}
-use Rattle.jx_reduce.specs.declared.table.whole.Whole.TheVariants as whole
 use Rattle.jx_reduce.specs.KnownStack.{Known, IsFault}
 use Rattle.jx_reduce.specs.Read.{Reading, step, read as read_marks}
-use Rattle.jx_reduce.specs.Whole.{whole_of}
-use Rattle.jx_run.specs.Reader.{Outcome, in_front, reads, expect_behind, state_behind}
-use Rattle.jx_run.specs.ReaderInside.{outcome_at}
+use Rattle.jx_run.specs.Reader.{Outcome, in_front, reads}
 use Rattle.jx_run.specs.Reading as text
 use Rattle.jx_run.specs.Telling.{AwaitsBehind}
-use Rattle.jx_run.specs.declared.readers.progress.Progress.{Progress}
-use Rattle.jx_run.specs.declared.readers.progress.Progress.TheVariants.{Going}
 use Rattle.jx_run.proofs.BothSeen.{no_fault_before}
 use Rattle.jx_reduce.proofs.KnownMoves.{read-fault}
 use Rattle.jx_run.proofs.ReaderSteps.{stuck}

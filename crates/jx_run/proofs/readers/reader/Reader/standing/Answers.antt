@@ -1,5 +1,5 @@
-use Rattle.std.proofs.Common.{◌≡◌, sym, ap, Some, ◌∙◌}
-use Rattle.jx_run.specs.Reader.{Outcome, ReaderValue}
+use Rattle.std.proofs.Common.{◌≡◌, ap, Some, ◌∙◌}
+use Rattle.jx_run.specs.Reader.{ReaderValue}
 use Rattle.jx_run.specs.ReaderInside.{outcome_at}
 use Rattle.jx_run.proofs.Standing.{standing_went}
 use Rattle.jx_run.proofs.readers.reader.Reader.standing.Goals as goal
