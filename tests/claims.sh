@@ -38,6 +38,7 @@ jx.1 | One worker reads with --live. | threads 0 0 | seq.20000000 | seq -q --liv
 jx.1 | With one worker no thread is started, except one to look up many pointers. | threads 0 0 | text.20000000 | check --workers 1
 jx.1 | With one worker no thread is started, except one to look up many pointers. | threads 0 0 | text.20000000 | explain --workers 1
 jx.1 | With one worker no thread is started, except one to look up many pointers. | threads 0 0 | text.20000000 | at --workers 1 /1
+jx.1 | With one worker no thread is started, except one to look up many pointers. | threads 0 0 | text.20000000 | index --workers 1
 jx.1 | With one worker no thread is started, except one to look up many pointers. | threads 0 0 | lines.20000000 | lines -q --workers 1
 jx.1 | With one worker no thread is started, except one to look up many pointers. | threads 0 0 | seq.20000000 | seq -q --workers 1
 jx.1 | With one worker no thread is started, except one to look up many pointers. | threads 1 1 | text.1200000 | at --workers 1 --pointers many
@@ -48,7 +49,9 @@ jx.1 | With fewer than 10000 pointers one thread reads, and at most 256 KiB of t
 jx.1 | With fewer than 10000 pointers one thread reads, and at most 256 KiB of the text are kept. | memory - 8000 | text.20000000 | at /1
 jx.1 | With --unique-names one thread reads, at most 256 KiB at a time. | threads 0 0 | text.20000000 | check --unique-names
 jx.1 | With --unique-names one thread reads, at most 256 KiB at a time. | memory - 8000 | text.20000000 | check --unique-names
-jx.1 | one of them reads the text and makes its index. | threads 0 0 | text.20000000 | index
+jx.1 | One of them reads the text and makes its index. They share the lines of 32768 values or more. | threads 0 0 | text.360428 | index --workers 4
+jx.1 | One of them reads the text and makes its index. They share the lines of 32768 values or more. | threads 2 2 | text.360429 | index --workers 4
+jx.1 | One of them reads the text and makes its index. They share the lines of 32768 values or more. | threads 4 - | text.20000000 | index --workers 4
 jx.1 | One worker reads the text, looks up fewer pointers, looks up by --index, and answers with --lines. | threads 0 0 | text.20000000 | get /1 /2
 jx.1 | One worker reads the text, looks up fewer pointers, looks up by --index, and answers with --lines. | threads 0 0 | lines.20000000 | get --lines /n
 jx.1 | They share what one read gives, from a MiB on. | threads 4 - | text.20000000 | each --workers 4

@@ -153,8 +153,9 @@ text with --unique-names.";
 
 pub const INDEX_WORKERS: &str =
     "Let there be N workers, 1 to 64, or auto: one for each processor that
-jx may use, at most 16. The answer is the same for every number: one
-of them reads the text and makes its index.";
+jx may use, at most 16. The answer is the same for every number. One
+of them reads the text and makes its index. They share the lines of
+32768 values or more.";
 
 pub const AT_WORKERS: &str = "Share the work among N workers, 1 to 64, or auto: one for each
 processor that jx may use, at most 16. The answer is the same for

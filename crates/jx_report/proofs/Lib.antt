@@ -6,6 +6,7 @@ mod ElementSteps
 mod FirstBytes
 mod LineEnds
 mod OneOutput
+mod PageSteps
 mod RowSteps
 mod SequenceSteps
 mod PointerReads

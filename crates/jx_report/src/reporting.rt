@@ -75,19 +75,20 @@ pub fn report_in_batches<R: Threads + Wait + Sync, S: Source + Send, W: Sink, G:
         gate,
     };
     let reply = answer_to_input(&crew, reader, command, batch)?;
-    show_reply(alloc, writer, &reply, command.quiet, BUFFER)
+    show_reply(&crew, writer, &reply, command.quiet, BUFFER)
 }
 
-/// Reads to the end of input, has it answered by the command's workers, and then writes the output through one buffer. A
-/// quiet command writes nothing, and its exit is the same. No memory is taken once the first byte is written. It may wait
-/// for the workers.
+/// Reads to the end of input, has it answered by the command's workers, and then writes the output through one buffer. Two
+/// or more workers make the lines of 32,768 rows or more, in buffers of their own. A quiet command writes nothing, and its
+/// exit is the same. All buffers are taken before the first byte is written. From then on nothing fails where memory is
+/// lacking: the calling thread makes the lines that threads cannot make. It may wait for the workers.
 ///
 /// The gate changes no output. One worker asks it as each chunk of a batch begins, and the chunks of a batch are
 /// numbered from 0. Several workers ask after each step, as by `read_batch`, and by `judge_batch` for what stands
-/// between two record separators. Rows are asked for by one worker. Where names have to be unique, or few pointers are
-/// looked up, one thread reads, and asks before it judges what a read gave, as chunk 0. Many pointers are looked up as
-/// by `find_all`. Less than a MiB is read by the calling thread alone where nobody is asked (`Gate::is_asked`). With
-/// several workers the reader is also called from another thread, one call at a time.
+/// between two record separators. Rows are asked for by one worker, and their lines by none. Where names have to be
+/// unique, or few pointers are looked up, one thread reads, and asks before it judges what a read gave, as chunk 0. Many
+/// pointers are looked up as by `find_all`. Less than a MiB is read by the calling thread alone where nobody is asked
+/// (`Gate::is_asked`). With several workers the reader is also called from another thread, one call at a time.
 pub fn report<R: Threads + Wait + Sync, S: Source + Send, W: Sink, G: Gate + Sync>(
     rt: &R,
     alloc: Global,
@@ -120,5 +121,5 @@ pub fn report<R: Threads + Wait + Sync, S: Source + Send, W: Sink, G: Gate + Syn
         gate,
     };
     let reply = answer_to_input(&crew, reader, command, batch_of(command))?;
-    show_reply(alloc, writer, &reply, command.quiet, BUFFER)
+    show_reply(&crew, writer, &reply, command.quiet, BUFFER)
 }

@@ -11,7 +11,7 @@ use jx_lex::{Kind, Span};
 use jx_words::push_bytes;
 
 /// How many bytes the line of a row has at most: that of numbers with 20 digits each.
-const LONGEST_ROW: usize = 156;
+pub(crate) const LONGEST_ROW: usize = 156;
 
 /// Puts the word for a kind between two spaces.
 #[inline(always)]

@@ -1,9 +1,11 @@
-// A reply is written through one buffer, which is taken before the first byte is written and does not grow.
-ghost use Rattle.std.specs.Prelude.{◌≡◌, ◌≢◌, ◌≤◌, ◌↔◌, ◌++◌, false, true, is_err, vec_capacity, IfErr, IfOk, IsErrOf, OnErr, OnOk};
+// A reply is written through one buffer, and the lines of many rows through those of workers. All buffers are taken before the
+// first byte is written, and none grows.
+ghost use Rattle.std.specs.Prelude.{◌≡◌, ◌≢◌, ◌≤◌, ◌↔◌, ◌++◌, false, true, is_err, length, vec_capacity, IfErr, IfOk, IsErrOf, OnErr, OnOk};
 ghost use Rattle.std.specs.Io.KnownBytes.{Appends};
 ghost use Rattle.jx_report.specs.Elements.{judged_lines};
 ghost use Rattle.jx_ends.specs.Ends.{AppendsBeginning};
 ghost use Rattle.jx_words.specs.inside.Lines.{pointer_lines};
+ghost use Rattle.jx_report.specs.inside.Pages.{lines_between, lines_from};
 ghost use Rattle.jx_report.specs.inside.Replies.{reply_exit, reply_output};
 ghost use Rattle.jx_words.specs.inside.Room.{HasRoom, IsPut};
 ghost use Rattle.jx_words.specs.Verdicts.{shown_output};
@@ -11,12 +13,14 @@ ghost use Rattle.jx_report.specs.RowWords.{row_lines};
 
 use crate::element_words::{element_at, push_element};
 use crate::reply::Reply;
+use crate::row_pages::{pages_for, write_in_rounds};
 use crate::row_words::RowColumns;
+use jx_crew::Crew;
 use jx_ends::{Exit, ReportFault, Sink, write_whole};
 use jx_index::Row;
 use jx_run::JudgedElement;
 use jx_words::{PointerAnswer, answer_at, push_bytes, push_pointer, push_verdict};
-use std::alloc::Global;
+use std::thread::Threads;
 
 /// How many bytes the longest line has: that of a row whose numbers have 20 digits each.
 pub(crate) const LONGEST_LINE: usize = 156;
@@ -38,8 +42,62 @@ fn make_room<W: Sink>(writer: &mut W, out: &mut Vec<u8>) -> Result<(), ReportFau
     Ok(())
 }
 
+/// Writes the lines of the rows from one on. The last lines may be left in the buffer.
+fn write_rows_from<W: Sink>(
+    writer: &mut W,
+    out: &mut Vec<u8>,
+    rows: &[Row],
+    first: usize,
+) -> Result<(), ReportFault>
+    requires unfailed { W.has_failed writer.old ≡ false }
+    requires large { LONGEST_LINE ≤ vec_capacity out.old }
+    requires first { first ≤ length rows.now }
+    ensures ok { OnOk result (IsPut (W.contents writer.old) (W.contents writer.new) out.new.items (out.old.items ++ lines_from rows.now first)) }
+    ensures err { OnErr result (AppendsBeginning (W.contents writer.old) (W.contents writer.new) (out.old.items ++ lines_from rows.now first)) }
+    ensures fault { IfErr result (λ fault. fault ≡ ReportFault.Write) }
+    ensures failed { W.has_failed writer.new ≡ is_err result }
+{
+    let mut columns = RowColumns::new();
+    for number in first..rows.len() {
+        make_room(writer, out)?;
+        columns.push_row(out, number, &rows[number]);
+    }
+    Ok(())
+}
+
+/// Writes what waits in the buffer and then the lines that the workers make, where there are enough rows for them, and
+/// answers which row comes then.
+fn write_by_workers<R: Threads + Sync, G, W: Sink>(
+    crew: &Crew<'_, R, G>,
+    writer: &mut W,
+    out: &mut Vec<u8>,
+    rows: &[Row],
+) -> Result<usize, ReportFault>
+    requires unfailed { W.has_failed writer.old ≡ false }
+    ensures within { IfOk result (λ next. next ≤ length rows.now) }
+    ensures ok { IfOk result (λ next. IsPut (W.contents writer.old) (W.contents writer.new) out.new.items (out.old.items ++ lines_between rows.now 0 next)) }
+    ensures large { vec_capacity out.old ≤ vec_capacity out.new }
+    ensures err { OnErr result (AppendsBeginning (W.contents writer.old) (W.contents writer.new) (out.old.items ++ row_lines 0 rows.now)) }
+    ensures fault { IfErr result (λ fault. fault ≡ ReportFault.Write) }
+    ensures failed { W.has_failed writer.new ≡ is_err result }
+{
+    match pages_for(crew.alloc, crew.workers, rows.len()) {
+        Ok(pages) if !pages.is_empty() => {
+            write_whole(writer, out)?;
+            out.clear();
+            write_in_rounds(crew, writer, pages, rows)
+        }
+        _ => Ok(0),
+    }
+}
+
 /// Writes the lines of all rows, which are numbered from 0. The last lines may be left in the buffer.
-fn write_rows<W: Sink>(writer: &mut W, out: &mut Vec<u8>, rows: &[Row]) -> Result<(), ReportFault>
+fn write_rows<R: Threads + Sync, G, W: Sink>(
+    crew: &Crew<'_, R, G>,
+    writer: &mut W,
+    out: &mut Vec<u8>,
+    rows: &[Row],
+) -> Result<(), ReportFault>
     requires unfailed { W.has_failed writer.old ≡ false }
     requires large { LONGEST_LINE ≤ vec_capacity out.old }
     ensures ok { OnOk result (IsPut (W.contents writer.old) (W.contents writer.new) out.new.items (out.old.items ++ row_lines 0 rows.now)) }
@@ -47,12 +105,8 @@ fn write_rows<W: Sink>(writer: &mut W, out: &mut Vec<u8>, rows: &[Row]) -> Resul
     ensures fault { IfErr result (λ fault. fault ≡ ReportFault.Write) }
     ensures failed { W.has_failed writer.new ≡ is_err result }
 {
-    let mut columns = RowColumns::new();
-    for number in 0..rows.len() {
-        make_room(writer, out)?;
-        columns.push_row(out, number, &rows[number]);
-    }
-    Ok(())
+    let next = write_by_workers(crew, writer, out, rows)?;
+    write_rows_from(writer, out, rows, next)
 }
 
 /// Writes a line for each pointer, in their order. The last lines may be left in the buffer.
@@ -96,7 +150,12 @@ fn write_elements<W: Sink>(
 }
 
 /// Writes a reply after what waits in the buffer. Its last lines may be left there.
-fn write_lines<W: Sink>(writer: &mut W, out: &mut Vec<u8>, reply: &Reply) -> Result<(), ReportFault>
+fn write_lines<R: Threads + Sync, G, W: Sink>(
+    crew: &Crew<'_, R, G>,
+    writer: &mut W,
+    out: &mut Vec<u8>,
+    reply: &Reply,
+) -> Result<(), ReportFault>
     requires unfailed { W.has_failed writer.old ≡ false }
     requires room { HasRoom out.old LONGEST_LINE }
     ensures ok { OnOk result (IsPut (W.contents writer.old) (W.contents writer.new) out.new.items (out.old.items ++ reply_output reply.now)) }
@@ -111,7 +170,7 @@ fn write_lines<W: Sink>(writer: &mut W, out: &mut Vec<u8>, reply: &Reply) -> Res
         }
         Reply::Rows(rows) => {
             push_bytes(out, b"accepted\n");
-            write_rows(writer, out, rows)
+            write_rows(crew, writer, out, rows)
         }
         Reply::Pointers(answers) => write_pointers(writer, out, answers),
         Reply::Elements(elements) => write_elements(writer, out, elements),
@@ -119,8 +178,8 @@ fn write_lines<W: Sink>(writer: &mut W, out: &mut Vec<u8>, reply: &Reply) -> Res
 }
 
 /// Writes a reply through a buffer of so many bytes, or of as many as the longest line has where that is more.
-fn write_reply<W: Sink>(
-    alloc: Global,
+fn write_reply<R: Threads + Sync, G, W: Sink>(
+    crew: &Crew<'_, R, G>,
     writer: &mut W,
     reply: &Reply,
     size: usize,
@@ -134,14 +193,14 @@ fn write_reply<W: Sink>(
     ensures unread { IfErr result (λ fault. fault ≢ ReportFault.Read) }
     ensures uncut { IfErr result (λ fault. fault ≢ ReportFault.Pieces) }
 {
-    let mut out = Vec::with_capacity(alloc, size.max(LONGEST_LINE))?;
-    write_lines(writer, &mut out, reply)?;
+    let mut out = Vec::with_capacity(crew.alloc, size.max(LONGEST_LINE))?;
+    write_lines(crew, writer, &mut out, reply)?;
     write_whole(writer, &out)
 }
 
 /// Writes a reply, or nothing where it is quiet, and answers the exit.
-pub(crate) fn show_reply<W: Sink>(
-    alloc: Global,
+pub(crate) fn show_reply<R: Threads + Sync, G, W: Sink>(
+    crew: &Crew<'_, R, G>,
     writer: &mut W,
     reply: &Reply,
     quiet: bool,
@@ -157,7 +216,7 @@ pub(crate) fn show_reply<W: Sink>(
     ensures uncut { IfErr result (λ fault. fault ≢ ReportFault.Pieces) }
 {
     if !quiet {
-        write_reply(alloc, writer, reply, size)?;
+        write_reply(crew, writer, reply, size)?;
     }
     Ok(reply.exit())
 }

@@ -1,0 +1,10 @@
+-- The lines up to the next row are written.
+use Rattle.std.proofs.Common.{◌≡◌, false}
+use Rattle.jx_report.specs.inside.Pages.{AreWritten}
+use Rattle.jx_report.proofs.row_pages.write_in_rounds.Given as goal
+
+abbrev pub invariant-loop : goal.invariant-loop
+invariant-loop g l = record {
+  wrote : AreWritten l.rows (g.W.Sink.contents l.initial.writer) (g.W.Sink.contents l.writer) 0 l.next;
+  going : g.W.Sink.has_failed l.writer ≡ false;
+}
