@@ -1,6 +1,6 @@
 // Reports over memory where an allocation fails: the right output, or out of memory with nothing written, and then the right output
 // where it is asked for again.
-ghost use Rattle.std.specs.Prelude.{◌≡◌, IfOk};
+ghost use Rattle.std.specs.Prelude.{◌≡◌, ◌≤◌, IfSome};
 
 use jx_crew::{Event, Gate, Go, Workers};
 use jx_ends::{End, Exit, ReportFault};
@@ -9,9 +9,9 @@ use jx_report::{report, report_in_batches};
 use jx_run::{FrontMark, NameRule};
 use jx_task::{Command, Task};
 use std::alloc::{AllocError, Global};
+use std::env::Env;
 use std::process::Abort;
 use std::sync::Wait;
-use std::test::Fail;
 use std::thread::Threads;
 use test_memory_of_runs::inputs::{
     FIVE_ROWS, NESTED, REPEATED, REPEATED_SEQUENCE, SEQUENCE, UNSORTED, WIDE, settings,
@@ -135,25 +135,18 @@ const REPORTS: [Case; 13] = [
 ];
 
 #[test]
-fn reports_by_one_worker_under_a_refused_growth(rt: HostRuntime) -> Result<(), Fail> {
-    let mut lines = Lines::of(&rt);
-    for case in &REPORTS {
-        if lines.takes_next() {
-            check(&rt, rt.alloc(), *case, 1)?;
-        }
-    }
-    Ok(())
+fn reports_by_one_worker_under_a_refused_growth(rt: HostRuntime) {
+    check_reports(&rt, rt.alloc(), 1)
 }
 
 #[test]
-fn reports_by_two_workers_under_a_refused_growth(rt: HostRuntime) -> Result<(), Fail> {
-    let mut lines = Lines::of(&rt);
-    for case in &REPORTS {
-        if lines.takes_next() {
-            check(&rt, rt.alloc(), *case, 2)?;
-        }
-    }
-    Ok(())
+fn reports_by_two_workers_under_a_refused_growth(rt: HostRuntime) {
+    check_reports(&rt, rt.alloc(), 2)
+}
+
+// A table stands in the frame of each function that names it, so that one function alone does.
+fn check_reports<R: Abort + Env + Threads + Wait + Sync>(rt: &R, alloc: Global, count: u8) {
+    check_all(rt, alloc, &REPORTS, Call::Report, count)
 }
 
 // Inputs that are read in several batches.
@@ -177,25 +170,41 @@ const BATCHES: [Case; 4] = [
 ];
 
 #[test]
-fn batches_by_one_worker_under_a_refused_growth(rt: HostRuntime) -> Result<(), Fail> {
-    let mut lines = Lines::of(&rt);
-    for case in &BATCHES {
-        if lines.takes_next() {
-            check_in_batches(&rt, rt.alloc(), *case, 1)?;
-        }
-    }
-    Ok(())
+fn batches_by_one_worker_under_a_refused_growth(rt: HostRuntime) {
+    check_batches(&rt, rt.alloc(), 1)
 }
 
 #[test]
-fn batches_by_two_workers_under_a_refused_growth(rt: HostRuntime) -> Result<(), Fail> {
-    let mut lines = Lines::of(&rt);
-    for case in &BATCHES {
+fn batches_by_two_workers_under_a_refused_growth(rt: HostRuntime) {
+    check_batches(&rt, rt.alloc(), 2)
+}
+
+fn check_batches<R: Abort + Env + Threads + Wait + Sync>(rt: &R, alloc: Global, count: u8) {
+    check_all(rt, alloc, &BATCHES, Call::Batches, count)
+}
+
+// The call that makes a report.
+#[derive(Clone, Copy)]
+enum Call {
+    Report,
+    /// Four bytes are read at a time.
+    Batches,
+}
+
+// Each of these reports, by that many workers.
+fn check_all<R: Abort + Env + Threads + Wait + Sync>(
+    rt: &R,
+    alloc: Global,
+    cases: &[Case],
+    call: Call,
+    count: u8,
+) {
+    let mut lines = Lines::of(rt);
+    for case in cases {
         if lines.takes_next() {
-            check_in_batches(&rt, rt.alloc(), *case, 2)?;
+            check(rt, alloc, case, call, count);
         }
     }
-    Ok(())
 }
 
 /// Room for what these reports write, so that a write takes no memory.
@@ -229,81 +238,102 @@ fn task_of(alloc: Global, asked: Asked) -> Result<Task, AllocError> {
 }
 
 /// A command for so many workers, who read a byte at a time.
-fn command(alloc: Global, case: &Case, count: u8) -> Result<Command, Fail>
-    ensures { IfOk result (λ c. c.piece ≡ 1) }
+fn command(alloc: Global, case: &Case, count: u8) -> Option<Command>
+    ensures { IfSome result (λ c. c.piece ≡ 1) }
 {
     let (asked, (mark, names), _, _, _) = *case;
-    Ok(Command {
-        task: task_of(alloc, asked)?,
+    Some(Command {
+        task: task_of(alloc, asked).ok()?,
         settings: settings(Depth::default(), mark, names),
-        workers: Workers::new(count).ok_or("workers")?,
+        workers: Workers::new(count)?,
         piece: 1,
         quiet: false,
     })
 }
 
-// A report on an input in chunks of a byte, by that many workers, made once more where it was out of memory.
+// A report's answer, and what is written then after what the room has.
+type Written = (Result<Exit, ReportFault>, Vec<u8>);
+
+/// What a report on an input writes.
+fn written<R: Threads + Wait + Sync>(
+    rt: &R,
+    alloc: Global,
+    command: &Command,
+    text: &[u8],
+    room: Vec<u8>,
+) -> Written
+    requires { 1 ≤ command.now.piece }
+{
+    let mut reader = End::new(text);
+    let mut writer = End::new(room);
+    let answer = report(rt, alloc, &mut reader, &mut writer, command, &Passing);
+    (answer, writer.inner)
+}
+
+/// The same where four bytes are read at a time.
+fn written_in_batches<R: Threads + Wait + Sync>(
+    rt: &R,
+    alloc: Global,
+    command: &Command,
+    text: &[u8],
+    room: Vec<u8>,
+) -> Written
+    requires { 1 ≤ command.now.piece }
+{
+    let mut reader = End::new(text);
+    let mut writer = End::new(room);
+    let (from, to) = (&mut reader, &mut writer);
+    let answer = report_in_batches(rt, alloc, from, to, command, &Passing, 4);
+    (answer, writer.inner)
+}
+
+fn written_by<R: Threads + Wait + Sync>(
+    rt: &R,
+    alloc: Global,
+    command: &Command,
+    text: &[u8],
+    call: Call,
+    room: Vec<u8>,
+) -> Written
+    requires { 1 ≤ command.now.piece }
+{
+    match call {
+        Call::Report => written(rt, alloc, command, text, room),
+        Call::Batches => written_in_batches(rt, alloc, command, text, room),
+    }
+}
+
+/// The same, made once more where it was out of memory and has written nothing.
+fn written_again<R: Threads + Wait + Sync>(
+    rt: &R,
+    alloc: Global,
+    command: &Command,
+    text: &[u8],
+    call: Call,
+    room: Vec<u8>,
+) -> Written
+    requires { 1 ≤ command.now.piece }
+{
+    let (answer, output) = written_by(rt, alloc, command, text, call, room);
+    if answer == Err(ReportFault::Memory) && output.is_empty() {
+        written_by(rt, alloc, command, text, call, output)
+    } else {
+        (answer, output)
+    }
+}
+
+// Whether a report on an input in chunks of a byte, by that many workers, is right.
 fn check<R: Abort + Threads + Wait + Sync>(
     rt: &R,
     alloc: Global,
-    case: Case,
+    case: &Case,
+    call: Call,
     count: u8,
-) -> Result<(), Fail> {
-    let (_, _, text, output, exit) = case;
-    let command = command(alloc, &case, count)?;
-    let mut writer = End::new(room(alloc)?);
-    let mut reader = End::new(text);
-    let answer = match report(rt, alloc, &mut reader, &mut writer, &command, &Passing) {
-        Ok(exit) => exit,
-        Err(fault) => {
-            assert_eq!(rt; fault, ReportFault::Memory);
-            assert!(rt; writer.inner.is_empty());
-            let mut reader = End::new(text);
-            report(rt, alloc, &mut reader, &mut writer, &command, &Passing)?
-        }
-    };
-    assert_eq!(rt; answer, exit, "{case:?} by {count}");
-    assert_eq!(rt;
-        writer.inner.as_slice(),
-        output.as_bytes(),
-        "{case:?} by {count}"
-    );
-    Ok(())
-}
-
-// The same where four bytes are read at a time.
-fn check_in_batches<R: Abort + Threads + Wait + Sync>(
-    rt: &R,
-    alloc: Global,
-    case: Case,
-    count: u8,
-) -> Result<(), Fail> {
-    let (_, _, text, output, exit) = case;
-    let command = command(alloc, &case, count)?;
-    let mut writer = End::new(room(alloc)?);
-    let mut reader = End::new(text);
-    let answer = match report_in_batches(
-        rt,
-        alloc,
-        &mut reader,
-        &mut writer,
-        &command,
-        &Passing,
-        4,
-    ) {
-        Ok(exit) => exit,
-        Err(fault) => {
-            assert_eq!(rt; fault, ReportFault::Memory);
-            assert!(rt; writer.inner.is_empty());
-            let mut reader = End::new(text);
-            report_in_batches(rt, alloc, &mut reader, &mut writer, &command, &Passing, 4)?
-        }
-    };
-    assert_eq!(rt; answer, exit, "{case:?} by {count}");
-    assert_eq!(rt;
-        writer.inner.as_slice(),
-        output.as_bytes(),
-        "{case:?} by {count}"
-    );
-    Ok(())
+) {
+    let (_, _, text, output, exit) = *case;
+    let command = command(alloc, case, count).expect(rt, "a command");
+    let room = room(alloc).expect(rt, "room");
+    let (answer, written) = written_again(rt, alloc, &command, text, call, room);
+    let right = answer == Ok(exit) && written.as_slice() == output.as_bytes();
+    assert!(rt; right, "{case:?} by {count}: {answer:?}, {written:?}");
 }

@@ -1,8 +1,8 @@
 // Reports in batches whose workers stop: the output is the same.
-ghost use Rattle.std.specs.Prelude.{◌≤◌, ◌<◌};
+ghost use Rattle.std.specs.Prelude.{◌≡◌, ◌≤◌, ◌<◌, IfSome};
 
 use jx_crew::Workers;
-use jx_ends::{End, Exit};
+use jx_ends::{End, Exit, ReportFault};
 use jx_lex::Depth;
 use jx_report::report_in_batches;
 use jx_run::{FrontMark, NameRule};
@@ -11,7 +11,6 @@ use std::alloc::Global;
 use std::process::Abort;
 use std::sync::Wait;
 use std::sync::atomic::AtomicBool;
-use std::test::Fail;
 use std::thread::Threads;
 use test_memory_of_runs::gates::{MANY, StopFrom};
 use test_memory_of_runs::inputs::settings;
@@ -48,43 +47,79 @@ const MARK_IGNORED: [Case; 5] = [
 ];
 
 #[test]
-fn workers_who_stop_change_no_verdict(rt: HostRuntime) -> Result<(), Fail> {
-    for case in &MARK_REFUSED {
-        check_text(&rt, rt.alloc(), FrontMark::Refused, *case)?;
-    }
-    for case in &MARK_IGNORED {
-        check_text(&rt, rt.alloc(), FrontMark::Ignored, *case)?;
-    }
-    Ok(())
+fn workers_who_stop_change_no_verdict(rt: HostRuntime) {
+    check_texts(&rt, rt.alloc(), FrontMark::Refused, &MARK_REFUSED);
+    check_texts(&rt, rt.alloc(), FrontMark::Ignored, &MARK_IGNORED);
 }
+
+const SEQUENCE: Case = (
+    b"\x1E[1]\n\x1E[2]\n\x1E{\"a\":[3]}\x1E4\n\x1E[5,6",
+    b"1..5 accepted\n6..10 accepted\n11..20 accepted\n21..23 accepted\n24..28 truncated\n",
+    Exit::Bad,
+);
 
 // They stop in each batch. The first one has two events for each of its parts, of which there are three at the most.
 #[test]
-fn workers_who_stop_in_a_sequence_change_no_verdict(rt: HostRuntime) -> Result<(), Fail> {
-    let case: Case = (
-        b"\x1E[1]\n\x1E[2]\n\x1E{\"a\":[3]}\x1E4\n\x1E[5,6",
-        b"1..5 accepted\n6..10 accepted\n11..20 accepted\n21..23 accepted\n24..28 truncated\n",
-        Exit::Bad,
-    );
-    for count in &[2u8, 5] {
-        let mut sequence = command(Task::Seq, 2, FrontMark::Refused, *count)?;
-        sequence.piece = 1;
-        let events = stopped_from_each(&rt, rt.alloc(), &sequence, 12, case)?;
-        assert!(rt; events > 6);
-    }
-    Ok(())
+fn workers_who_stop_in_a_sequence_change_no_verdict(rt: HostRuntime) {
+    check_sequence(&rt, rt.alloc(), &SEQUENCE)
 }
 
-// A command within a depth, for so many workers who read a byte at a time.
-fn command(task: Task, containers: u32, mark: FrontMark, count: u8) -> Result<Command, Fail> {
-    let depth = Depth::new(containers).ok_or("a depth")?;
-    Ok(Command {
+fn check_sequence<R: Abort + Threads + Wait + Sync>(rt: &R, alloc: Global, case: &Case) {
+    for count in &[2u8, 5] {
+        let sequence = command(Task::Seq, 2, FrontMark::Refused, *count).expect(rt, "a command");
+        let events = stopped_from_each(rt, alloc, &sequence, 12, case);
+        assert!(rt; events > 6);
+    }
+}
+
+/// A command within a depth, for so many workers who read a byte at a time.
+fn command(task: Task, containers: u32, mark: FrontMark, count: u8) -> Option<Command>
+    ensures { IfSome result (λ c. c.piece ≡ 1) }
+{
+    Some(Command {
         task,
-        settings: settings(depth, mark, NameRule::Any),
-        workers: Workers::new(count).ok_or("workers")?,
+        settings: settings(Depth::new(containers)?, mark, NameRule::Any),
+        workers: Workers::new(count)?,
         piece: 1,
         quiet: false,
     })
+}
+
+/// The answer of a report whose workers a gate stops, and what it writes.
+fn written<R: Threads + Wait + Sync>(
+    rt: &R,
+    alloc: Global,
+    command: &Command,
+    batch: usize,
+    text: &[u8],
+    gate: &StopFrom,
+) -> (Result<Exit, ReportFault>, Vec<u8>)
+    requires piece { 1 ≤ command.now.piece }
+    requires some { 1 ≤ batch }
+    requires few { batch < 4294967296 }
+{
+    let mut reader = End::new(text);
+    let mut writer = End::new(Vec::new(alloc));
+    let answer = report_in_batches(rt, alloc, &mut reader, &mut writer, command, gate, batch);
+    (answer, writer.inner)
+}
+
+/// Whether a report whose workers a gate stops answers and writes what it has to.
+fn is_right<R: Threads + Wait + Sync>(
+    rt: &R,
+    alloc: Global,
+    command: &Command,
+    batch: usize,
+    case: &Case,
+    gate: &StopFrom,
+) -> bool
+    requires piece { 1 ≤ command.now.piece }
+    requires some { 1 ≤ batch }
+    requires few { batch < 4294967296 }
+{
+    let (text, output, exit) = *case;
+    let (answer, written) = written(rt, alloc, command, batch, text, gate);
+    answer == Ok(exit) && written.as_slice() == output && !gate.was_ignored()
 }
 
 /// Checks reports whose workers stop from an event on: first from the event 0, then from 1, and so on, until a run meets no
@@ -94,31 +129,22 @@ fn stopped_from_each<R: Abort + Threads + Wait + Sync>(
     alloc: Global,
     command: &Command,
     batch: usize,
-    case: Case,
-) -> Result<u64, Fail>
+    case: &Case,
+) -> u64
     requires piece { 1 ≤ command.now.piece }
     requires some { 1 ≤ batch }
     requires few { batch < 4294967296 }
 {
-    let (text, output, exit) = case;
     let begun = AtomicBool::new(true);
     for number in 0..MANY {
         let gate = StopFrom::new(number, &begun);
-        let mut reader = End::new(text);
-        let mut writer = End::new(Vec::new(alloc));
-        let answer = report_in_batches(rt, alloc, &mut reader, &mut writer, command, &gate, batch);
-        assert_eq!(rt; answer, Ok(exit), "{text:?}, stopped at {number}");
-        assert_eq!(rt;
-            writer.inner.as_slice(),
-            output,
-            "{text:?}, stopped at {number}"
-        );
-        assert!(rt; !gate.was_ignored(), "{text:?}, stopped at {number}");
+        let right = is_right(rt, alloc, command, batch, case, &gate);
+        assert!(rt; right, "{case:?}, stopped at {number}");
         if !gate.has_stopped() {
-            return Ok(number);
+            return number;
         }
     }
-    Err("a run that meets no stop".into())
+    panic!(rt; "no run that meets no stop")
 }
 
 /// How many bytes of a text are read at a time.
@@ -133,35 +159,44 @@ fn check_stops<R: Abort + Threads + Wait + Sync>(
     alloc: Global,
     mark: FrontMark,
     count: u8,
-    case: Case,
-) -> Result<(), Fail> {
-    let mut command = command(Task::Check, 8, mark, count)?;
-    command.piece = 1;
-    let batches = stopped_from_each(rt, alloc, &command, BATCH, case)?;
+    case: &Case,
+) {
+    let mut command = command(Task::Check, 8, mark, count).expect(rt, "a command");
+    let batches = stopped_from_each(rt, alloc, &command, BATCH, case);
     command.settings.names = NameRule::Unique;
-    let by_names = stopped_from_each(rt, alloc, &command, BATCH, case)?;
-    let of_one_batch = if count == 1 {
-        BATCH as u64
-    } else {
-        2 * u64::from(count)
-    };
-    assert!(rt; batches > 0, "{:?} meets no stop", case.0);
-    assert!(rt; by_names > 0, "{:?} meets no stop by names", case.0);
-    if case.2 == Exit::Good {
-        assert!(rt; batches > of_one_batch);
-    }
-    Ok(())
+    let by_names = stopped_from_each(rt, alloc, &command, BATCH, case);
+    let least = least_of(count, case.2);
+    let right = batches >= least && by_names > 0;
+    assert!(rt;
+        right,
+        "{case:?} meets {batches} stops, {by_names} by names"
+    );
 }
 
-// A text by one, two and five workers.
-fn check_text<R: Abort + Threads + Wait + Sync>(
+/// How many events a text has at least: more than one batch has, where it is accepted.
+fn least_of(count: u8, exit: Exit) -> u64 {
+    match exit {
+        Exit::Bad => 1,
+        Exit::Good => {
+            if count == 1 {
+                BATCH as u64 + 1
+            } else {
+                2 * u64::from(count) + 1
+            }
+        }
+    }
+}
+
+// These texts, each by one, two and five workers.
+fn check_texts<R: Abort + Threads + Wait + Sync>(
     rt: &R,
     alloc: Global,
     mark: FrontMark,
-    case: Case,
-) -> Result<(), Fail> {
-    for count in &[1u8, 2, 5] {
-        check_stops(rt, alloc, mark, *count, case)?;
+    cases: &[Case],
+) {
+    for case in cases {
+        for count in &[1u8, 2, 5] {
+            check_stops(rt, alloc, mark, *count, case);
+        }
     }
-    Ok(())
 }

@@ -6,38 +6,56 @@ use jx_crew::{OpenGate, Workers};
 use jx_index::{Indexed, Pointer};
 use jx_lex::Depth;
 use std::alloc::Global;
+use std::process::Abort;
 use std::sync::Wait;
-use std::test::Fail;
 use std::thread::Threads;
 
 #[test]
-fn another_worker_draws_while_the_first_is_held(rt: HostRuntime) -> Result<(), Fail> {
-    let alloc = rt.alloc();
-    let index = index_of(&rt, alloc, b"[10,20]")?;
-    let (Ok(first), Ok(second)) = (Pointer::read("/0"), Pointer::read("/1")) else {
-        return Err("two pointers".into());
-    };
-    let gate = Meeting::new(Until::Drew);
-    let workers = Workers::new(2).ok_or("workers")?;
-    let answers = find_all(&rt, alloc, &index, &[first, second], workers, &gate)?;
-    assert!(rt; are_at(&answers, &[(1, 3), (4, 6)]));
-    assert!(rt; gate.took_place());
-    Ok(())
+fn another_worker_draws_while_the_first_is_held(rt: HostRuntime) {
+    let pointers = [pointer_of(&rt, "/0"), pointer_of(&rt, "/1")];
+    let took_place = meets(&rt, rt.alloc(), &pointers, &[(1, 3), (4, 6)]);
+    assert!(rt; took_place);
 }
 
 #[test]
-fn one_pointer_asks_no_gate(rt: HostRuntime) -> Result<(), Fail> {
-    let alloc = rt.alloc();
-    let index = index_of(&rt, alloc, b"[10,20]")?;
-    let Ok(pointer) = Pointer::read("/1") else {
-        return Err("a pointer".into());
-    };
+fn one_pointer_asks_no_gate(rt: HostRuntime) {
+    let pointers = [pointer_of(&rt, "/1")];
+    let took_place = meets(&rt, rt.alloc(), &pointers, &[(4, 6)]);
+    assert!(rt; !took_place);
+}
+
+fn pointer_of<'p, R: Abort>(rt: &R, spelt: &'p str) -> Pointer<'p> {
+    Pointer::read(spelt).expect(rt, "a pointer")
+}
+
+// Whether two workers meet as they look these pointers up, which lead to these places.
+fn meets<R: Abort + Threads + Wait + Sync>(
+    rt: &R,
+    alloc: Global,
+    pointers: &[Pointer],
+    places: &[(usize, usize)],
+) -> bool {
+    let index = index_of(rt, alloc, b"[10,20]");
     let gate = Meeting::new(Until::Drew);
-    let workers = Workers::new(2).ok_or("workers")?;
-    let answers = find_all(&rt, alloc, &index, &[pointer], workers, &gate)?;
-    assert!(rt; are_at(&answers, &[(4, 6)]));
-    assert!(rt; !gate.took_place());
-    Ok(())
+    let right = are_found(rt, alloc, &index, pointers, places, &gate);
+    assert!(rt; right);
+    gate.took_place()
+}
+
+// Whether the pointers lead to these places.
+fn are_found<R: Abort + Threads + Wait + Sync>(
+    rt: &R,
+    alloc: Global,
+    index: &Indexed,
+    pointers: &[Pointer],
+    places: &[(usize, usize)],
+    gate: &Meeting,
+) -> bool {
+    let workers = Workers::new(2).expect(rt, "workers");
+    match find_all(rt, alloc, index, pointers, workers, gate) {
+        Ok(answers) => are_at(&answers, places),
+        Err(_) => false,
+    }
 }
 
 // Whether these are values at these places, in order.
@@ -48,16 +66,23 @@ fn are_at(answers: &[Answer], places: &[(usize, usize)]) -> bool {
         })
 }
 
-fn index_of<'a, R: Threads + Wait + Sync>(
+fn index_of<'a, R: Abort + Threads + Wait + Sync>(
     rt: &R,
     alloc: Global,
     text: &'a [u8],
-) -> Result<Indexed<'a>, Fail> {
-    let workers = Workers::new(1).ok_or("one worker")?;
-    let cutting = Cutting::every(text.len(), 4)?;
-    let depth = Depth::default();
-    match index_text(rt, alloc, text, &cutting, workers, depth, &OpenGate)? {
-        TextAnswer::Accepted(index) => Ok(index),
-        TextAnswer::Refused(_) => Err("a text".into()),
+) -> Indexed<'a> {
+    let workers = Workers::new(1).expect(rt, "one worker");
+    let cutting = Cutting::every(text.len(), 4).expect(rt, "pieces");
+    match index_text(
+        rt,
+        alloc,
+        text,
+        &cutting,
+        workers,
+        Depth::default(),
+        &OpenGate,
+    ) {
+        Ok(TextAnswer::Accepted(index)) => index,
+        _ => panic!(rt; "no text"),
     }
 }
