@@ -1,6 +1,6 @@
 // The lines of many rows: each worker makes those of a page, and the calling thread writes the pages in order. It goes on alone
 // where there is no memory for workers.
-ghost use Rattle.std.specs.Prelude.{◌≡◌, ◌-◌, ◌*◌, ◌≤◌, ◌++◌, false, is_err, length, drop, vec_capacity, All, IfOk, OnErr, IfErr};
+ghost use Rattle.std.specs.Prelude.{◌≡◌, ◌-◌, ◌*◌, ◌≤◌, ◌++◌, false, is_err, length, vec_capacity, All, IfOk, OnErr, IfErr};
 ghost use Rattle.std.specs.Io.KnownBytes.{Appends};
 ghost use Rattle.jx_ends.specs.Ends.{AppendsBeginning};
 ghost use Rattle.jx_report.specs.RowWords.{row_lines};
