@@ -1,4 +1,4 @@
-ghost use Rattle.std.specs.Prelude.{◌≡◌, ◌<◌, ◌≤◌, ℕ, List, [], false, IfErr, IfOk, OnOk, length, vec_len};
+ghost use Rattle.std.specs.Prelude.{◌≡◌, ◌<◌, ◌≤◌, ℕ, List, [], Some, false, IfErr, IfOk, OnOk, length, vec_len};
 ghost use Rattle.std.specs.Thread.{IsSend, IsSync};
 ghost use Rattle.jx_parallel.specs.Faults.{IfRead, ReadFailsBy};
 ghost use Rattle.jx_parallel.specs.Offsets.{EndsBefore};
@@ -6,7 +6,7 @@ ghost use Rattle.jx_parallel.specs.Parts.{GoesOn, HasReadAll};
 
 use crate::check_fault::CheckFault;
 use crate::judging::{Parts, judge_some};
-use crate::part_reader::{PartReader, PartRule};
+use crate::part_reader::PartReader;
 use crate::pieces::Pieces;
 use crate::placed::Placed;
 use crate::ruled::Ruled;
@@ -40,8 +40,8 @@ fn numbers(alloc: Global, workers: Workers) -> Result<Vec<u8>, AllocError> {
 /// The parts that workers judge between two offsets.
 fn judged_between<
     F: SharedAt + Sync,
-    K: Ruled + Send + Sync,
     L: PartReader + Send,
+    K: Ruled<L::Rule> + Send + Sync,
     R: Threads + Wait + Sync,
 >(
     rt: &R,
@@ -49,23 +49,23 @@ fn judged_between<
     file: &F,
     workers: Workers,
     piece: usize,
-    rule: &PartRule,
+    rule: &L::Rule,
     from: usize,
     end: usize,
-) -> Result<Vec<Placed<K, L>>, AllocError>
+) -> Result<Vec<Placed<L, K>>, AllocError>
     requires text { K.text ≡ F.content file.now }
-    requires rule { rule.now ≡ K.rule }
+    requires rule { K.rule ≡ Some rule.now }
 {
     let pieces = Pieces::new(from, piece);
-    let parts: Parts<K, L> = Mutex::new(Vec::<Placed<K, L>>::new(alloc));
+    let parts: Parts<L, K> = Mutex::new(Vec::<Placed<L, K>>::new(alloc));
     let jobs = numbers(alloc, workers)?;
     call_each(
         rt,
         alloc,
         jobs,
         &|_number: u8| -> bool
-            requires { (K.text ≡ F.content file.now) × (rule.now ≡ K.rule) }
-        { judge_some::<F, K, L, R>(rt, alloc, file, rule, &parts, &pieces, end) },
+            requires { (K.text ≡ F.content file.now) × (K.rule ≡ Some rule.now) }
+        { judge_some::<F, L, K, R>(rt, alloc, file, rule, &parts, &pieces, end) },
     )?;
     Ok(parts.into_inner())
 }
@@ -73,8 +73,8 @@ fn judged_between<
 /// Reads a round as `read_round` does, of the text that `K` names.
 fn read_round_of<
     F: SharedAt + Sync,
-    K: Ruled + Send + Sync,
     L: PartReader + Send,
+    K: Ruled<L::Rule> + Send + Sync,
     R: Threads + Wait + Sync,
 >(
     rt: &R,
@@ -83,11 +83,11 @@ fn read_round_of<
     workers: Workers,
     buffer: &mut [u8],
     count: usize,
-    rule: &PartRule,
+    rule: &L::Rule,
     reader: &mut L,
 ) -> Result<(), CheckFault<F::Fault>>
     requires text { K.text ≡ F.content file.now }
-    requires rule { rule.now ≡ K.rule }
+    requires rule { K.rule ≡ Some rule.now }
     ensures length { length buffer.new ≡ length buffer.old }
     ensures read { OnOk result (GoesOn (F.content file.now) (L.has_read rule.now) reader.old reader.new) }
     ensures stopped { IfErr result (IfRead (GoesOn (F.content file.now) (L.has_read rule.now) reader.old reader.new)) }
@@ -96,8 +96,8 @@ fn read_round_of<
     let piece = buffer.len();
     let from = reader.end();
     let end = from.saturating_add(piece.saturating_mul(count));
-    let parts = judged_between::<F, K, L, R>(rt, alloc, file, workers, piece, rule, from, end)?;
-    take_parts::<F, K, L, R>(rt, file, rule, buffer, parts, reader)?;
+    let parts = judged_between::<F, L, K, R>(rt, alloc, file, workers, piece, rule, from, end)?;
+    take_parts::<F, L, K, R>(rt, file, rule, buffer, parts, reader)?;
     read_to(rt, file, rule, buffer, end, reader)?;
     Ok(())
 }
@@ -118,7 +118,7 @@ pub fn read_round<F: SharedAt + Sync, L: PartReader + Send, R: Threads + Wait + 
     workers: Workers,
     buffer: &mut [u8],
     count: usize,
-    rule: &PartRule,
+    rule: &L::Rule,
     reader: &mut L,
 ) -> Result<bool, CheckFault<F::Fault>>
     requires room { 0 < length buffer.old }
@@ -130,7 +130,7 @@ pub fn read_round<F: SharedAt + Sync, L: PartReader + Send, R: Threads + Wait + 
     ensures end { IfOk result (λ more. more ≡ false → EndsBefore (F.content file.now) (L.end reader.new)) }
     ensures fault { IfErr result (ReadFailsBy (F.may_fail file.now)) }
 {
-    read_round_of::<F, Brand, L, R>(rt, alloc, file, workers, buffer, count, rule, reader)?;
+    read_round_of::<F, L, Brand, R>(rt, alloc, file, workers, buffer, count, rule, reader)?;
     let few = buffer.len().min(FEW);
     let more = read_there(file, rule, &mut buffer[..few], reader)?;
     Ok(more > 0)
@@ -146,12 +146,12 @@ pub fn read_by_parts<F: SharedAt + Sync, L: PartReader + Send, R: Threads + Wait
     file: &F,
     workers: Workers,
     piece: usize,
-    rule: &PartRule,
+    rule: &L::Rule,
     reader: &mut L,
 ) -> Result<(), CheckFault<F::Fault>>
     requires piece { 1 ≤ piece }
     // For every number of workers, size of chunks and order of steps, it has read the content, if it had read nothing.
-    ensures read { OnOk result ((given : List ℕ) → L.has_read rule.now [] given reader.old → HasReadAll (F.content file.now) (λ xs. L.has_read rule.now xs given) reader.new) }
+    ensures read { OnOk result ((given : L.Given) → L.has_read rule.now [] given reader.old → HasReadAll (F.content file.now) (λ xs. L.has_read rule.now xs given) reader.new) }
     ensures fault { IfErr result (ReadFailsBy (F.may_fail file.now)) }
 {
     let mut buffer = Vec::new(alloc);

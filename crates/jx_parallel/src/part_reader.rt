@@ -4,7 +4,7 @@ ghost use Rattle.std.specs.Prelude.{◌≡◌, ◌+◌, ◌<◌, ◌≤◌, ◌^
 use jx_lex::Depth;
 use std::alloc::{AllocError, Global};
 
-/// How parts of a text are judged.
+/// How parts of a text are judged whose verdicts are told.
 #[derive(Clone, Copy, Debug)]
 pub struct PartRule {
     /// How many containers may be open at once.
@@ -24,16 +24,21 @@ pub struct Judged<P> {
 /// A reading of a text from its start. It also takes parts that were judged without the bytes before them.
 pub trait PartReader: Drop {
     ghost use Rattle.std.specs.Prelude.{ℕ, List};
-    ghost use Rattle.jx_parallel.specs.declared.part_reader.PartRule.{PartRule};
+
+    /// How parts are judged.
+    type Rule: Sync;
 
     /// The result of judging a part.
     type Part: Drop + Send;
 
-    /// Judging these bytes from an offset on gives this.
-    ghost is_part: { PartRule → ℕ → List ℕ → Self.Part → Type 0 };
+    /// What was given of its reports, before what waits.
+    ghost Given: { Type 0 };
 
-    /// It has read these bytes, from a text's start, and these bytes of their output were written, before those that wait.
-    ghost has_read: { PartRule → List ℕ → List ℕ → Self → Type 0 };
+    /// Judging these bytes from an offset on gives this.
+    ghost is_part: { Self.Rule → ℕ → List ℕ → Self.Part → Type 0 };
+
+    /// It has read these bytes, from a text's start, and this was given of them.
+    ghost has_read: { Self.Rule → List ℕ → Given → Self → Type 0 };
 
     /// How many bytes it has read.
     ghost end: { Self → ℕ };
@@ -41,7 +46,7 @@ pub trait PartReader: Drop {
     /// Judges those of the bytes from an offset on that need no others for it; none if there are none.
     fn judge(
         alloc: Global,
-        rule: &PartRule,
+        rule: &Self::Rule,
         bytes: &[u8],
         at: usize,
     ) -> Result<Option<Judged<Self::Part>>, AllocError>
@@ -53,18 +58,18 @@ pub trait PartReader: Drop {
     /// How many bytes it has read.
     fn end(&self) -> usize
         ensures end { result ≡ end self.now }
-        ensures length { (rule : PartRule) (xs given : List ℕ) → has_read rule xs given self.now → result ≡ length xs };
+        ensures length { (rule : Self.Rule) (xs : List ℕ) (given : Given) → has_read rule xs given self.now → result ≡ length xs };
 
     /// Reads the bytes after all that it has read.
-    fn feed(&mut self, rule: &PartRule, bytes: &[u8]) -> Result<(), AllocError>
+    fn feed(&mut self, rule: &Self::Rule, bytes: &[u8]) -> Result<(), AllocError>
         requires fits { end self.old + length bytes.now < 2 ^ 64 }
-        ensures read { OnOk result ((xs given : List ℕ) → has_read rule.now xs given self.old → has_read rule.now (xs ++ bytes.now) given self.new) };
+        ensures read { OnOk result ((xs : List ℕ) (given : Given) → has_read rule.now xs given self.old → has_read rule.now (xs ++ bytes.now) given self.new) };
 
     /// Takes so many bytes that were judged, as if it had read them after all that it has read. Answers whether it did: it need
     /// not if it can't go on with them.
-    fn take(&mut self, rule: &PartRule, part: Self::Part, len: usize) -> Result<bool, AllocError>
+    fn take(&mut self, rule: &Self::Rule, part: Self::Part, len: usize) -> Result<bool, AllocError>
         requires fits { end self.old + len < 2 ^ 64 }
-        ensures taken { IfOk result (λ is. is ≡ true → (xs ys given : List ℕ) → has_read rule.now xs given self.old → length ys ≡ len → is_part rule.now (length xs) ys part → has_read rule.now (xs ++ ys) given self.new) }
+        ensures taken { IfOk result (λ is. is ≡ true → (xs ys : List ℕ) (given : Given) → has_read rule.now xs given self.old → length ys ≡ len → is_part rule.now (length xs) ys part → has_read rule.now (xs ++ ys) given self.new) }
         ensures left { IfOk result (λ is. is ≡ false → self.new ≡ self.old) };
 
     /// Whether its output is to be written before it reads on. A round ends then.

@@ -1,11 +1,11 @@
 // How parts are taken in turn, and the bytes between them are read.
-ghost use Rattle.std.specs.Prelude.{◌≡◌, ◌<◌, IfErr, IfOk, OnOk, length};
+ghost use Rattle.std.specs.Prelude.{◌≡◌, ◌<◌, Some, IfErr, IfOk, OnOk, length};
 ghost use Rattle.jx_parallel.specs.Faults.{IfRead, ReadFailsBy};
 ghost use Rattle.jx_parallel.specs.Offsets.{EndsBefore};
 ghost use Rattle.jx_parallel.specs.Parts.{GoesOn};
 
 use crate::check_fault::CheckFault;
-use crate::part_reader::{PartReader, PartRule};
+use crate::part_reader::PartReader;
 use crate::placed::Placed;
 use crate::reading::read_some;
 use crate::ruled::Ruled;
@@ -16,7 +16,7 @@ use std::sync::Wait;
 /// Lets a reader go on by what one read gives, and returns how many bytes that were; 0 at the end.
 pub(crate) fn read_there<F: SharedAt, L: PartReader>(
     file: &F,
-    rule: &PartRule,
+    rule: &L::Rule,
     buffer: &mut [u8],
     reader: &mut L,
 ) -> Result<usize, CheckFault<F::Fault>>
@@ -42,7 +42,7 @@ pub(crate) fn read_there<F: SharedAt, L: PartReader>(
 pub(crate) fn read_to<F: SharedAt, L: PartReader, R: Wait>(
     rt: &R,
     file: &F,
-    rule: &PartRule,
+    rule: &L::Rule,
     buffer: &mut [u8],
     offset: usize,
     reader: &mut L,
@@ -66,7 +66,7 @@ pub(crate) fn read_to<F: SharedAt, L: PartReader, R: Wait>(
 }
 
 /// Which of the parts is the first of the text, by its number.
-fn first_of<K: Ruled, L: PartReader>(parts: &Vec<Placed<K, L>>) -> usize {
+fn first_of<L: PartReader, K: Ruled<L::Rule>>(parts: &Vec<Placed<L, K>>) -> usize {
     let mut first = 0;
     for number in 0..parts.len() {
         if first < parts.len() && parts[number].at() < parts[first].at() {
@@ -77,7 +77,9 @@ fn first_of<K: Ruled, L: PartReader>(parts: &Vec<Placed<K, L>>) -> usize {
 }
 
 /// Takes the first part of the text out.
-fn next_part<K: Ruled, L: PartReader>(parts: &mut Vec<Placed<K, L>>) -> Option<Placed<K, L>> {
+fn next_part<L: PartReader, K: Ruled<L::Rule>>(
+    parts: &mut Vec<Placed<L, K>>,
+) -> Option<Placed<L, K>> {
     let first = first_of(parts);
     if first < parts.len() {
         Some(parts.swap_remove(first))
@@ -87,12 +89,12 @@ fn next_part<K: Ruled, L: PartReader>(parts: &mut Vec<Placed<K, L>>) -> Option<P
 }
 
 /// Lets a reader take a part, if the part begins where it has read up to.
-fn take<K: Ruled, L: PartReader>(
-    rule: &PartRule,
-    part: Placed<K, L>,
+fn take<L: PartReader, K: Ruled<L::Rule>>(
+    rule: &L::Rule,
+    part: Placed<L, K>,
     reader: &mut L,
 ) -> Result<(), AllocError>
-    requires rule { rule.now ≡ K.rule }
+    requires rule { K.rule ≡ Some rule.now }
     ensures { OnOk result (GoesOn K.text (L.has_read rule.now) reader.old reader.new) }
 {
     let end = reader.end();
@@ -110,16 +112,16 @@ fn take<K: Ruled, L: PartReader>(
 }
 
 /// Lets a reader read up to a part, and take it.
-fn take_there<F: SharedAt, K: Ruled, L: PartReader, R: Wait>(
+fn take_there<F: SharedAt, L: PartReader, K: Ruled<L::Rule>, R: Wait>(
     rt: &R,
     file: &F,
-    rule: &PartRule,
+    rule: &L::Rule,
     buffer: &mut [u8],
-    part: Placed<K, L>,
+    part: Placed<L, K>,
     reader: &mut L,
 ) -> Result<(), CheckFault<F::Fault>>
     requires text { K.text ≡ F.content file.now }
-    requires rule { rule.now ≡ K.rule }
+    requires rule { K.rule ≡ Some rule.now }
     ensures length { length buffer.new ≡ length buffer.old }
     ensures read { OnOk result (GoesOn (F.content file.now) (L.has_read rule.now) reader.old reader.new) }
     ensures stopped { IfErr result (IfRead (GoesOn (F.content file.now) (L.has_read rule.now) reader.old reader.new)) }
@@ -131,16 +133,16 @@ fn take_there<F: SharedAt, K: Ruled, L: PartReader, R: Wait>(
 }
 
 /// Lets a reader take parts in the order of the text, and read the bytes between them, until it is full.
-pub(crate) fn take_parts<F: SharedAt, K: Ruled, L: PartReader, R: Wait>(
+pub(crate) fn take_parts<F: SharedAt, L: PartReader, K: Ruled<L::Rule>, R: Wait>(
     rt: &R,
     file: &F,
-    rule: &PartRule,
+    rule: &L::Rule,
     buffer: &mut [u8],
-    parts: Vec<Placed<K, L>>,
+    parts: Vec<Placed<L, K>>,
     reader: &mut L,
 ) -> Result<(), CheckFault<F::Fault>>
     requires text { K.text ≡ F.content file.now }
-    requires rule { rule.now ≡ K.rule }
+    requires rule { K.rule ≡ Some rule.now }
     ensures length { length buffer.new ≡ length buffer.old }
     ensures read { OnOk result (GoesOn (F.content file.now) (L.has_read rule.now) reader.old reader.new) }
     ensures stopped { IfErr result (IfRead (GoesOn (F.content file.now) (L.has_read rule.now) reader.old reader.new)) }
@@ -154,7 +156,7 @@ pub(crate) fn take_parts<F: SharedAt, K: Ruled, L: PartReader, R: Wait>(
         let Some(part) = next_part(&mut parts) else {
             return Ok(());
         };
-        take_there::<F, K, L, R>(rt, file, rule, buffer, part, reader)?;
+        take_there::<F, L, K, R>(rt, file, rule, buffer, part, reader)?;
     }
     unreachable!()
 }

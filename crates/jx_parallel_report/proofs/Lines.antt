@@ -37,9 +37,9 @@ use Rattle.jx_ndjson_report.proofs.Told.{lines_among, more_lines, nothing_told, 
 use Rattle.jx_parallel.specs.declared.part_reader.PartRule.{PartRule}
 use Rattle.jx_parallel.specs.Offsets.{EndsBefore, IsContent, StandThere}
 use Rattle.jx_parallel.proofs.There.{is_whole}
-use Rattle.jx_parallel_report.specs.declared.report_at_fault.ReportAtFault.{ReportAtFault}
-use Rattle.jx_parallel_report.specs.declared.report_at_fault.ReportAtFault.TheVariants.{Memory, Read, Write}
-use Rattle.jx_parallel_report.specs.ReportsAt.{FailsBy}
+use Rattle.jx_drive_at.specs.declared.report_at_fault.ReportAtFault.{ReportAtFault}
+use Rattle.jx_drive_at.specs.declared.report_at_fault.ReportAtFault.TheVariants.{Memory, Read, Write}
+use Rattle.jx_drive_at.specs.ReportsAt.{FailsBy}
 use Rattle.jx_parallel_report.specs.LinesAt.{ReportsLines, WroteLines, WroteLinesInPart}
 use Rattle.jx_parallel_report.specs.inside.Lines.{AfterFault, HasRead, IsPart, IsTold, Telling, reported}
 

@@ -21,9 +21,9 @@ use Rattle.jx_report.specs.Elements.{exit_past_judged}
 use Rattle.jx_report.specs.Output.{Output}
 use Rattle.jx_ndjson_report.specs.Elements.{element_line}
 use Rattle.jx_ndjson_report.proofs.ElementTakes.{by_names, judged_output, same_lines}
-use Rattle.jx_parallel_report.specs.ReportsAt.{FailsBy}
-use Rattle.jx_parallel_report.specs.declared.report_at_fault.ReportAtFault.{ReportAtFault}
-use Rattle.jx_parallel_report.specs.declared.report_at_fault.ReportAtFault.TheVariants.{Memory, Read, Write}
+use Rattle.jx_drive_at.specs.ReportsAt.{FailsBy}
+use Rattle.jx_drive_at.specs.declared.report_at_fault.ReportAtFault.{ReportAtFault}
+use Rattle.jx_drive_at.specs.declared.report_at_fault.ReportAtFault.TheVariants.{Memory, Read, Write}
 
 -- what holds where a call gives Ok, and what follows from it
 pub carried : {T E : Type 0} (A B : T → Type 0) (result : Result T E) → IfOk result A → ((x : T) → A x → B x) → IfOk result B

@@ -12,8 +12,6 @@ use Rattle.jx_task.specs.declared.task.Task.TheVariants.{Check, Index, At, Seq}
 use Rattle.jx_words.specs.Verdicts.{shown_output}
 use Rattle.jx_report.specs.Output.{Output}
 use Rattle.jx_parallel.specs.Offsets.{IsContent}
-use Rattle.jx_parallel_report.specs.declared.report_at_fault.ReportAtFault.{ReportAtFault}
-use Rattle.jx_parallel_report.specs.declared.report_at_fault.ReportAtFault.TheVariants.{Memory, Read, Write}
 
 -- it asks for the verdict on a text, or for those on the elements of a sequence in front of which no byte order mark is ignored
 abbrev pub IsSharedTask : Task → FrontMark → Type 0
@@ -42,9 +40,3 @@ pub record ReportsAtInPart (command : Command) (known written grown : Option (Li
   pub whole : IsContent known text
   pub answer : Output command.task command.settings text output exit
   pub wrote : AppendsBeginning written grown (shown_output command.quiet output)
-
--- if a read failed, it failed for such a reason
-abbrev pub FailsBy : {E : Type 0} → (E → Type 0) → ReportAtFault E → Type 0
-FailsBy may_fail Memory = ⊤
-FailsBy may_fail (Read reason) = may_fail reason
-FailsBy may_fail Write = ⊤

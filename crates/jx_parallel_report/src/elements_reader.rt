@@ -158,10 +158,14 @@ fn part_of(
 }
 
 impl PartReader for ElementsReader {
-    ghost use Rattle.std.specs.Prelude.{◌+◌};
+    ghost use Rattle.std.specs.Prelude.{◌+◌, ℕ, List};
     ghost use Rattle.jx_parallel_report.specs.inside.Elements.{HasRead, IsPart};
 
+    type Rule = PartRule;
+
     type Part = ToldElements;
+
+    ghost Given = { List ℕ };
 
     ghost is_part = { IsPart };
 

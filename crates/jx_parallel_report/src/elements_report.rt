@@ -8,13 +8,13 @@ ghost use Rattle.jx_run.specs.declared.texts.settings.NameRule.TheVariants.{Any}
 ghost use Rattle.jx_task.specs.declared.task.Task.TheVariants.{Seq};
 ghost use Rattle.jx_parallel.specs.Faults.{ReadFailsBy};
 ghost use Rattle.jx_parallel.specs.Offsets.{IsContent};
-ghost use Rattle.jx_parallel_report.specs.ReportsAt.{FailsBy, ReportsAt, ReportsAtInPart};
+ghost use Rattle.jx_drive_at.specs.ReportsAt.{FailsBy};
+ghost use Rattle.jx_parallel_report.specs.ReportsAt.{ReportsAt, ReportsAtInPart};
 ghost use Rattle.jx_parallel_report.specs.inside.Elements.{AreAllTold};
 
 use crate::elements_part::ToldElements;
 use crate::elements_reader::ElementsReader;
-use crate::report_at_fault::ReportAtFault;
-use crate::steps::step_of;
+use jx_drive_at::{ReportAtFault, step_of};
 use jx_ends::{Exit, Sink, write_whole};
 use jx_parallel::{CheckFault, PartRule, SharedAt, read_by_parts};
 use jx_task::Command;

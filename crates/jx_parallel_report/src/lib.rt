@@ -7,10 +7,7 @@ mod elements_report;
 mod lines_reader;
 mod lines_report;
 mod lines_words;
-mod report_at_fault;
 mod reporting;
-mod steps;
 
 pub use lines_report::report_lines_at;
-pub use report_at_fault::ReportAtFault;
 pub use reporting::{is_shared, report_at};

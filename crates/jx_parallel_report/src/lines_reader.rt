@@ -97,10 +97,14 @@ impl<K: Asked> LinesReader<K> {
 }
 
 impl<K: Asked> PartReader for LinesReader<K> {
-    ghost use Rattle.std.specs.Prelude.{◌+◌};
+    ghost use Rattle.std.specs.Prelude.{◌+◌, ℕ, List};
     ghost use Rattle.jx_parallel_report.specs.inside.Lines.{HasRead, IsPart};
 
+    type Rule = PartRule;
+
     type Part = WholeLines;
+
+    ghost Given = { List ℕ };
 
     ghost is_part = { IsPart };
 

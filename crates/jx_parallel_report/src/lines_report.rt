@@ -5,14 +5,13 @@ ghost use Rattle.jx_ndjson_report.specs.Output.{bad_lines};
 ghost use Rattle.jx_parallel.specs.declared.part_reader.PartRule.{PartRule};
 ghost use Rattle.jx_parallel.specs.Offsets.{EndsBefore};
 ghost use Rattle.jx_parallel_report.specs.LinesAt.{ReportsLines, WroteLines, WroteLinesInPart};
-ghost use Rattle.jx_parallel_report.specs.ReportsAt.{FailsBy};
+ghost use Rattle.jx_drive_at.specs.ReportsAt.{FailsBy};
 ghost use Rattle.jx_parallel_report.specs.inside.Lines.{AfterFault, IsTold};
 
 use crate::lines_reader::{Asked, LinesReader};
 use crate::lines_words::{told_at_end, words_of};
-use crate::report_at_fault::ReportAtFault;
-use crate::steps::step_of;
 use jx_crew::Workers;
+use jx_drive_at::{ReportAtFault, step_of};
 use jx_ends::{Exit, Sink, write_whole};
 use jx_ndjson::ended_lines_of_a_reader;
 use jx_ndjson_report::LinesTask;

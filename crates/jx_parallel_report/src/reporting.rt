@@ -5,12 +5,12 @@ ghost use Rattle.jx_ends.specs.Ends.{AppendsBeginning};
 ghost use Rattle.jx_run.specs.declared.texts.settings.NameRule.TheVariants.{Any};
 ghost use Rattle.jx_task.specs.declared.task.Task.TheVariants.{Check};
 ghost use Rattle.jx_words.specs.Verdicts.{ByVerdict, SaysAccepted, shown_output};
-ghost use Rattle.jx_parallel_report.specs.ReportsAt.{FailsBy, IsShared, ReportsAt, ReportsAtInPart};
+ghost use Rattle.jx_drive_at.specs.ReportsAt.{FailsBy};
+ghost use Rattle.jx_parallel_report.specs.ReportsAt.{IsShared, ReportsAt, ReportsAtInPart};
 
 use crate::elements_report::report_elements;
-use crate::report_at_fault::ReportAtFault;
-use crate::steps::step_of;
 use jx_answer::verdict_without_a_rule_on_names;
+use jx_drive_at::{ReportAtFault, step_of};
 use jx_ends::{Exit, ReportFault, Sink};
 use jx_parallel::{CheckFault, SharedAt, check_at};
 use jx_run::{FrontMark, NameRule, Verdict};

@@ -9,8 +9,8 @@ use Rattle.jx_ndjson.specs.WholeLines.{AreWhole, WholeLinesValue}
 use Rattle.jx_ndjson_report.specs.declared.task.BlankRule.{BlankRule}
 use Rattle.jx_ndjson_report.specs.declared.task.BlankRule.TheVariants.{Refused, Passed}
 use Rattle.jx_ndjson_report.specs.declared.task.LinesTask.{LinesTask}
-use Rattle.jx_parallel_report.specs.declared.report_at_fault.ReportAtFault.{ReportAtFault}
-use Rattle.jx_parallel_report.specs.declared.report_at_fault.ReportAtFault.TheVariants.{Memory, Read, Write}
+use Rattle.jx_drive_at.specs.declared.report_at_fault.ReportAtFault.{ReportAtFault}
+use Rattle.jx_drive_at.specs.declared.report_at_fault.ReportAtFault.TheVariants.{Memory, Read, Write}
 use Rattle.jx_parallel_report.specs.LinesAt.{WroteLines, WroteLinesInPart}
 use Rattle.jx_parallel.specs.declared.part_reader.PartRule.{PartRule}
 use Rattle.jx_parallel.specs.Offsets.{StandThere}

@@ -1,10 +1,12 @@
-use Rattle.std.proofs.Common.{◌≤◌, ◌+◌, length, subst}
+use Rattle.std.proofs.Common.{◌≡◌, ◌≤◌, ◌+◌, length, subst, sym, ◌∙◌}
 use Rattle.std.proofs.lemmas.List.Edits.{length-between}
-use Rattle.std.specs.Prelude.{IfSome, Option, slice_range}
+use Rattle.std.specs.Prelude.{IfSome, Option, Some, slice_range}
 use Rattle.jx_parallel.specs.declared.part_reader.Judged.{Judged}
-use Rattle.jx_parallel.specs.declared.part_reader.PartRule.{PartRule}
 use Rattle.jx_parallel.proofs.There.{inner_there}
 use Rattle.jx_parallel.proofs.placed.Placed.judge.Goals as goal
+
+same_rule : {Rule : Type 0} (a b : Rule) → Some a ≡ Some b → a ≡ b
+same_rule a b h = cc
 
 pub invariant_of-result : goal.invariant_of-result
 invariant_of-result g c =
@@ -20,5 +22,5 @@ invariant_of-result g c =
       bytes = slice_range bytes from to;
       long = length-between bytes from to within;
       there = inner_there g.K.Ruled.text c.args.at bytes from to ordered within c.requires.there;
-      is = subst (λ (r : PartRule). g.L.PartReader.is_part r (c.args.at + from) (slice_range bytes from to) c.in-Some.judged.part) c.requires.rule part;
+      is = λ rule by. subst (λ r. g.L.PartReader.is_part r (c.args.at + from) (slice_range bytes from to) c.in-Some.judged.part) (same_rule c.args.rule.now rule (sym c.requires.rule ∙ by)) part;
     }

@@ -11,8 +11,9 @@ const STEP: usize = 256 * 1024;
 /// How many it reads at a time at most, whatever the command asks for.
 const MOST: usize = 8 * 1024 * 1024;
 
-/// How many bytes a worker reads at a time, by the chunk of a command.
-pub(crate) fn step_of(piece: usize) -> usize
+/// How many bytes a worker reads at a time, by the chunk that a command asks for: 256 KiB for 64 KiB, which is the default, and
+/// else as many, up to 8 MiB.
+pub fn step_of(piece: usize) -> usize
     requires { 1 ≤ piece }
     ensures some { 1 ≤ result }
     ensures most { result ≤ 8388608 }

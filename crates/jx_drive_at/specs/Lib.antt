@@ -1,0 +1,2 @@
+pub mod ReportsAt
+pub mod inside
