@@ -16,8 +16,9 @@ use Rattle.jx_ends.specs.Ends.{AppendsBeginning}
 use Rattle.jx_words.specs.Words.{line, refusal_words}
 use Rattle.jx_each.specs.declared.content.LineContent.TheVariants.{Empty}
 use Rattle.jx_each.specs.Due.{Element, IsDueBy, all_lines_by, element_line, elements_at}
-use Rattle.jx_values.specs.Counts.{IsCounted, ReportsCount, WroteCountInPart, count_line}
-use Rattle.jx_values.specs.Elements.{ReportsElements, TellsByVerdict}
+use Rattle.jx_drive.specs.Reports.{ReportsAll}
+use Rattle.jx_values.specs.Counts.{IsCounted, ToldCount, WroteCountInPart, count_line}
+use Rattle.jx_values.specs.Elements.{TellsByVerdict, ToldOutput}
 use Rattle.jx_values.specs.Values.{exit_by}
 use Rattle.jx_values.specs.inside.Tally.{all_line_feeds, line_feeds, number_by}
 
@@ -66,31 +67,37 @@ AllDue settings = (pointer text output : List ℕ) (tree : Tree) → IsDocumentB
 
 module _ (settings : Settings) (pointer : List ℕ) (u l : Option (List ℕ)) (n : ℕ) (lost : Bool) (told retold : Option (List ℕ)) (law : AllDue settings) where
   abbrev Reports : Exit → Type 0
-  Reports exit = ReportsElements Empty settings pointer u l (Some []) (Some (line_feeds n)) lost told retold exit
+  Reports exit = ReportsAll (ToldOutput false Empty settings pointer lost told retold) u l (Some []) (Some (line_feeds n)) exit
 
   good_text : (r : Reports Good) → (tree : Tree) × IsDocumentBy settings 0 r.text tree
-  good_text r = a_text settings pointer r.text r.answer.said r.answer.verdict r.answer.told (sym r.answer.all_told ∙ good_tells r.tells r.answer.ends)
+  good_text r =
+      let a = r.answer.answer in
+      a_text settings pointer r.text a.said a.verdict a.told (sym a.all_told ∙ good_tells r.answer.tells a.ends)
 
   good_count : (r : Reports Good) (tree : Tree) → IsDocumentBy settings 0 r.text tree → line (decimal n) ≡ count_line r.text pointer tree
   good_count r tree is_text =
       let es : List Element = elements_at Empty r.text (tokens pointer) tree in
-      let made : line_feeds n ≡ line_feeds (length es) = r.wrote ∙ law pointer r.text r.lines tree is_text r.answer.due ∙ empty_lines r.text es in
+      let made : line_feeds n ≡ line_feeds (length es) = r.wrote ∙ r.answer.written ∙ law pointer r.text r.answer.lines tree is_text r.answer.answer.due ∙ empty_lines r.text es in
       ap (λ (k : ℕ). line (decimal k)) (sym (length_of_line_feeds n) ∙ ap length made ∙ length_of_line_feeds (length es))
 
   counted : (exit : Exit) (r : Reports exit) → IsCounted settings pointer r.text exit (number_by exit n)
   counted Good r = let t = good_text r in (t.0, t.1, good_count r t.0 t.1)
   counted Bad r = refl
 
-  pub reports_count : (w g : Option (List ℕ)) (exit : Exit) → Reports exit → Appends w g (number_by exit n) → ReportsCount settings pointer u l w g lost told retold exit
-  reports_count w g exit r wrote = record {
-    text = r.text;
-    output = number_by exit n;
-    tells = r.tells;
-    read = r.read;
-    answer = record { verdict = r.answer.verdict; is_verdict = r.answer.is_verdict; told = subst (λ (x : List ℕ). TellsByVerdict Empty settings pointer r.text r.answer.verdict x) (sym r.answer.all_told) r.answer.told; ends = r.answer.ends; counted = counted exit r };
-    wrote = wrote;
-    says = r.says;
-  }
+  pub reports_count : (w g : Option (List ℕ)) (exit : Exit) → Reports exit → Appends w g (number_by exit n) → ReportsAll (ToldCount settings pointer lost told retold) u l w g exit
+  reports_count w g exit r wrote =
+      let a = r.answer.answer in
+      record {
+        text = r.text;
+        output = number_by exit n;
+        read = r.read;
+        answer = record {
+          tells = r.answer.tells;
+          answer = record { verdict = a.verdict; is_verdict = a.is_verdict; told = subst (λ (x : List ℕ). TellsByVerdict Empty settings pointer r.text a.verdict x) (sym a.all_told) a.told; ends = a.ends; counted = counted exit r };
+          says = r.answer.says;
+        };
+        wrote = wrote;
+      }
 
   pub count_in_part : (w g : Option (List ℕ)) (exit : Exit) → Reports exit → AppendsBeginning w g (number_by exit n) → WroteCountInPart settings pointer u l w g
   count_in_part w g Good r part =
@@ -99,7 +106,7 @@ module _ (settings : Settings) (pointer : List ℕ) (u l : Option (List ℕ)) (n
   count_in_part w g Bad r part = absurd (let lt : part.0 < 0 = part.1 in omega (arith, lt))
 
   pub none_told : (exit : Exit) → Reports exit → exit ≡ Good → lost ≡ false → Appends told retold []
-  none_told exit r good not_lost = subst (λ (x : List ℕ). Appends told retold x) (good_tells r.tells (sym good ∙ r.answer.ends)) (r.says not_lost)
+  none_told exit r good not_lost = subst (λ (x : List ℕ). Appends told retold x) (good_tells r.answer.tells (sym good ∙ r.answer.answer.ends)) (r.answer.says not_lost)
 
 pub appends_none : (known : Option (List ℕ)) → Appends known known []
 appends_none None = tt

@@ -1,5 +1,5 @@
 mod Chunks
-mod ElementWrites
+mod ElementsTold
 mod Copies
 mod Lines
 mod Tells

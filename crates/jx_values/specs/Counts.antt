@@ -32,15 +32,10 @@ pub record CountOutput (settings : Settings) (pointer input output tells : List 
   pub ends : exit ≡ exit_by tells
   pub counted : IsCounted settings pointer input exit output
 
--- the reader gave all that it had, the writer got the whole output for it, and the report was written unless reporting
--- failed
-pub record ReportsCount (settings : Settings) (pointer : List ℕ) (unread left written grown : Option (List ℕ)) (is_lost : Bool) (told retold : Option (List ℕ)) (exit : Exit) : Type 0 where
-  pub text : List ℕ
-  pub output : List ℕ
+-- and the report was written unless reporting failed
+pub record ToldCount (settings : Settings) (pointer : List ℕ) (is_lost : Bool) (told retold : Option (List ℕ)) (input output : List ℕ) (exit : Exit) : Type 0 where
   pub tells : List ℕ
-  pub read : ReadsToEnd unread left text
-  pub answer : CountOutput settings pointer text output tells exit
-  pub wrote : Appends written grown output
+  pub answer : CountOutput settings pointer input output tells exit
   pub says : is_lost ≡ false → Appends told retold tells
 
 -- the reader gave all that it had, which is a text, and the writer got a beginning of its line, and not all

@@ -1,6 +1,6 @@
 -- A report on the elements of a text from a reader to two writers, by their bytes.
 use Rattle.std.specs.Prelude.{◌≡◌, ℕ, List, [], ◌++◌, length, codes, decimal, Option, Bool, false, Result, Ok, Err}
-use Rattle.std.specs.Io.KnownBytes.{Appends, Consumes}
+use Rattle.std.specs.Io.KnownBytes.{Appends}
 use Rattle.jx_run.specs.declared.texts.settings.Settings.{Settings}
 use Rattle.jx_run.specs.declared.texts.verdict.Verdict.{Verdict}
 use Rattle.jx_run.specs.declared.texts.verdict.Verdict.TheVariants.{Accepted, Refused}
@@ -19,7 +19,6 @@ use Rattle.jx_each.specs.declared.content.LineContent.TheVariants.{Alone, Named,
 use Rattle.jx_each.specs.Due.{IsDueBy}
 use Rattle.jx_ends.specs.declared.exit.Exit.{Exit}
 use Rattle.jx_words.specs.declared.pointer_answer.PointerAnswer.TheVariants.{Lost}
-use Rattle.jx_ends.specs.Ends.{ReadsToEnd, AppendsBeginning}
 use Rattle.jx_words.specs.Pointers.{answer_words}
 use Rattle.jx_words.specs.Words.{line, refusal_words}
 use Rattle.jx_values.specs.NameTexts.{lone_in, shown_as, told_of_lone}
@@ -83,54 +82,18 @@ pub record ElementsOutput (by_texts : Bool) (content : LineContent) (settings : 
   pub all_told : tells ≡ told_of_lone pointer (lone_in by_texts lines) ++ said
   pub ends : exit ≡ exit_by tells
 
--- ---- of the ends
+-- ---- as it is written and told
 
--- the reader gave all that it had, the writer got all lines that are due of it, and the report was written unless reporting
--- failed
-pub record ReportsLines (by_texts : Bool) (content : LineContent) (settings : Settings) (pointer : List ℕ) (unread left written grown : Option (List ℕ)) (is_lost : Bool) (told retold : Option (List ℕ)) (exit : Exit) : Type 0 where
-  pub text : List ℕ
+-- the lines that are due of the bytes of an input, as they are written
+pub record IsDue (by_texts : Bool) (content : LineContent) (settings : Settings) (pointer input output : List ℕ) : Type 0 where
+  pub lines : List ℕ
+  pub due : IsDueBy content settings pointer input lines
+  pub written : output ≡ shown_as by_texts lines
+
+-- this is written of the lines that are due of an input, this is the status, and the report was written unless reporting failed
+pub record ToldOutput (by_texts : Bool) (content : LineContent) (settings : Settings) (pointer : List ℕ) (is_lost : Bool) (told retold : Option (List ℕ)) (input output : List ℕ) (exit : Exit) : Type 0 where
   pub lines : List ℕ
   pub tells : List ℕ
-  pub read : ReadsToEnd unread left text
-  pub answer : ElementsOutput by_texts content settings pointer text lines tells exit
-  pub wrote : Appends written grown (shown_as by_texts lines)
+  pub answer : ElementsOutput by_texts content settings pointer input lines tells exit
+  pub written : output ≡ shown_as by_texts lines
   pub says : is_lost ≡ false → Appends told retold tells
-
--- the writer got what is due of the bytes that were read
-pub record WroteLinesDue (by_texts : Bool) (content : LineContent) (settings : Settings) (pointer : List ℕ) (unread left written grown : Option (List ℕ)) : Type 0 where
-  pub text : List ℕ
-  pub lines : List ℕ
-  pub read : Consumes unread left text
-  pub due : IsDueBy content settings pointer text lines
-  pub wrote : Appends written grown (shown_as by_texts lines)
-
--- the writer got what is due of a beginning of the bytes that were read: whole lines
-pub record WroteWholeLines (by_texts : Bool) (content : LineContent) (settings : Settings) (pointer : List ℕ) (unread left written grown : Option (List ℕ)) : Type 0 where
-  pub text : List ℕ
-  pub more : List ℕ
-  pub lines : List ℕ
-  pub read : Consumes unread left (text ++ more)
-  pub due : IsDueBy content settings pointer text lines
-  pub wrote : Appends written grown (shown_as by_texts lines)
-
--- the writer got a beginning of what is due of the bytes that were read, and not all
-pub record WroteLinesInPart (by_texts : Bool) (content : LineContent) (settings : Settings) (pointer : List ℕ) (unread left written grown : Option (List ℕ)) : Type 0 where
-  pub text : List ℕ
-  pub lines : List ℕ
-  pub read : Consumes unread left text
-  pub due : IsDueBy content settings pointer text lines
-  pub wrote : AppendsBeginning written grown (shown_as by_texts lines)
-
--- ---- lines as they are made
-
-abbrev pub ReportsElements : LineContent → Settings → List ℕ → Option (List ℕ) → Option (List ℕ) → Option (List ℕ) → Option (List ℕ) → Bool → Option (List ℕ) → Option (List ℕ) → Exit → Type 0
-ReportsElements content settings pointer unread left written grown is_lost told retold exit = ReportsLines false content settings pointer unread left written grown is_lost told retold exit
-
-abbrev pub WroteDue : LineContent → Settings → List ℕ → Option (List ℕ) → Option (List ℕ) → Option (List ℕ) → Option (List ℕ) → Type 0
-WroteDue content settings pointer unread left written grown = WroteLinesDue false content settings pointer unread left written grown
-
-abbrev pub WroteLines : LineContent → Settings → List ℕ → Option (List ℕ) → Option (List ℕ) → Option (List ℕ) → Option (List ℕ) → Type 0
-WroteLines content settings pointer unread left written grown = WroteWholeLines false content settings pointer unread left written grown
-
-abbrev pub WroteInPart : LineContent → Settings → List ℕ → Option (List ℕ) → Option (List ℕ) → Option (List ℕ) → Option (List ℕ) → Type 0
-WroteInPart content settings pointer unread left written grown = WroteLinesInPart false content settings pointer unread left written grown

@@ -1,6 +1,6 @@
 -- Definitions that only the contracts of this crate's own functions cite.
 pub mod Characters
-pub mod ElementSteps
+pub mod ElementsTeller
 pub mod Kept
 pub mod Moved
 pub mod Replies

@@ -1,12 +1,13 @@
 // How many elements a container has.
 ghost use Rattle.std.specs.Prelude.{◌≡◌, ◌≢◌, ◌↔◌, [], Some, false, true, IfErr, IfOk, IsErrOf, OnErr, OnOk, decimal};
 ghost use Rattle.std.specs.Io.KnownBytes.{Appends};
+ghost use Rattle.jx_drive.specs.Reports.{ReportsAll};
 ghost use Rattle.jx_ends.specs.Ends.{AppendsBeginning};
 ghost use Rattle.jx_index.specs.Pointers.{IsPointer};
 ghost use Rattle.jx_each.specs.declared.content.LineContent.TheVariants.{Empty};
 ghost use Rattle.jx_words.specs.Words.{line};
-ghost use Rattle.jx_values.specs.Counts.{ReportsCount, WroteCountInPart};
-ghost use Rattle.jx_values.specs.Elements.{ReportsElements};
+ghost use Rattle.jx_values.specs.Counts.{ToldCount, WroteCountInPart};
+ghost use Rattle.jx_values.specs.Elements.{ToldOutput};
 ghost use Rattle.jx_values.specs.inside.Tally.{line_feeds, number_by};
 
 use crate::elements::report_elements;
@@ -52,8 +53,8 @@ fn count_elements<R: Threads + Wait + Sync, S: Source, E: Sink, G: Gate + Sync>(
 ) -> Result<Counted, ReportFault>
     requires pointer { IsPointer pointer.now }
     requires reader { S.has_failed reader.old ≡ false }
-    ensures ok { IfOk result (λ counted. ReportsElements Empty settings.now pointer.now (S.remaining reader.old) (S.remaining reader.new)
-        (Some []) (Some (line_feeds counted.count)) (E.has_failed errors.new) (E.contents errors.old) (E.contents errors.new) counted.exit) }
+    ensures ok { IfOk result (λ counted. ReportsAll (ToldOutput false Empty settings.now pointer.now (E.has_failed errors.new) (E.contents errors.old) (E.contents errors.new)) (S.remaining reader.old) (S.remaining reader.new)
+        (Some []) (Some (line_feeds counted.count)) counted.exit) }
     ensures read { IsErrOf result ReportFault.Read ↔ (S.has_failed reader.new ≡ true) }
     ensures unwritten { IfErr result (λ fault. fault ≢ ReportFault.Write) }
     ensures uncut { IfErr result (λ fault. fault ≢ ReportFault.Pieces) }
@@ -122,8 +123,7 @@ pub fn report_count<R: Threads + Wait + Sync, S: Source, W: Sink, E: Sink, G: Ga
     requires reader { S.has_failed reader.old ≡ false }
     requires writer { W.has_failed writer.old ≡ false }
     // All that the reader had was read, and its whole output was written and told.
-    ensures ok { IfOk result (λ exit. ReportsCount settings.now pointer.now (S.remaining reader.old) (S.remaining reader.new)
-        (W.contents writer.old) (W.contents writer.new) (E.has_failed errors.new) (E.contents errors.old) (E.contents errors.new) exit) }
+    ensures ok { IfOk result (λ exit. ReportsAll (ToldCount settings.now pointer.now (E.has_failed errors.new) (E.contents errors.old) (E.contents errors.new)) (S.remaining reader.old) (S.remaining reader.new) (W.contents writer.old) (W.contents writer.new) exit) }
     ensures read { IsErrOf result ReportFault.Read ↔ (S.has_failed reader.new ≡ true) }
     ensures write { IsErrOf result ReportFault.Write ↔ (W.has_failed writer.new ≡ true) }
     // After each fault nothing was reported, and after all but a write fault nothing was written.

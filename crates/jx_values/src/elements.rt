@@ -1,21 +1,20 @@
 // The elements of a container are written while the text is read.
-ghost use Rattle.std.specs.Prelude.{◌≡◌, ◌≢◌, ◌<◌, ◌≤◌, ◌↔◌, [], true, false, length, IfErr, IfOk, IsErrOf, OnErr, OnOk};
+ghost use Rattle.std.specs.Prelude.{◌≡◌, ◌≢◌, ◌<◌, ◌↔◌, ◌++◌, Bool, List, ℕ, true, false, IfErr, IfOk, IsErrOf, OnErr, OnOk};
+ghost use Rattle.jx_drive.specs.Reports.{ReportsAll, WroteDue, WroteInPart, WroteLines};
+ghost use Rattle.jx_run.specs.declared.texts.settings.Settings.{Settings};
 ghost use Rattle.jx_index.specs.Pointers.{IsPointer};
-ghost use Rattle.jx_each.specs.Each.{HasTakenBy};
+ghost use Rattle.jx_each.specs.declared.content.LineContent.{LineContent};
 ghost use Rattle.jx_each.specs.declared.content.LineContent.TheVariants.{NameAlone};
-ghost use Rattle.jx_values.specs.Elements.{ReportsElements, ReportsLines, WroteDue, WroteInPart, WroteLines, WroteLinesDue, WroteLinesInPart, WroteWholeLines};
-ghost use Rattle.jx_values.specs.inside.ElementSteps.{IsAllWritten, WritesOn, WritesPart};
-ghost use Rattle.jx_values.specs.inside.Showing.{IsShownBy};
-ghost use Rattle.jx_values.specs.inside.Sought.{HasSought, any_names};
+ghost use Rattle.jx_values.specs.Elements.{IsDue, ToldOutput};
+ghost use Rattle.jx_values.specs.inside.ElementsTeller.{HasTaken};
 
-use crate::showing::{Showing, told_with_lone};
-use crate::sought::{Sought, pointers_of, seek, sought_at_start, told_of_elements, verdict_of};
-use crate::telling::{exit_by, tell};
+use crate::elements_teller::{ElementsTask, ElementsTeller};
 use jx_crew::{Crew, Gate};
-use jx_each::{Each, LineContent, lines_due_of_no_byte, lines_taken_and_waiting};
-use jx_each_batch::feed_shared;
+use jx_drive::report_by;
+use jx_each::{LineContent, lines_due_of_no_byte};
 use jx_ends::{Exit, ReportFault, Sink, Source};
 use jx_run::Settings;
+use std::alloc::AllocError;
 use std::sync::Wait;
 use std::thread::Threads;
 
@@ -24,82 +23,6 @@ const STEP: usize = 256 * 1024;
 
 /// How many bytes are read at a time, at most, where several workers share them.
 const SHARED_STEP: usize = 4 * 1024 * 1024;
-
-/// Takes a batch after what was read, and writes the lines that are due then. It is also out of memory where the last
-/// byte has no offset.
-fn write_due<R: Threads + Wait + Sync, W: Sink, G: Gate + Sync>(
-    crew: &Crew<'_, R, G>,
-    writer: &mut W,
-    each: &mut Each,
-    sought: &mut Sought<'_>,
-    showing: &mut Showing,
-    batch: &[u8],
-    piece: usize,
-) -> Result<(), ReportFault>
-    requires writer { W.has_failed writer.old ≡ false }
-    requires piece { 1 ≤ piece }
-    ensures settings { each.new.reader.settings ≡ each.old.reader.settings }
-    ensures ok { OnOk result (WritesOn (W.contents writer.old) (W.contents writer.new) batch.now each.old each.new sought.old sought.new showing.old showing.new) }
-    ensures going { OnOk result (W.has_failed writer.new ≡ false) }
-    ensures write { IsErrOf result ReportFault.Write ↔ (W.has_failed writer.new ≡ true) }
-    ensures beginning { IsErrOf result ReportFault.Write → WritesPart (W.contents writer.old) (W.contents writer.new) batch.now each.old showing.old }
-    ensures unwritten { IfErr result (λ fault. fault ≢ ReportFault.Write → writer.new ≡ writer.old) }
-    ensures unread { IfErr result (λ fault. fault ≢ ReportFault.Read) }
-    ensures uncut { IfErr result (λ fault. fault ≢ ReportFault.Pieces) }
-{
-    lines_taken_and_waiting();
-    if batch.len() > usize::MAX - each.end() {
-        return Err(ReportFault::Memory);
-    }
-    seek(sought, batch)?;
-    feed_shared(crew, each, batch, piece)?;
-    showing.write(crew.alloc, writer, each.ready())?;
-    each.clear_ready();
-    Ok(())
-}
-
-/// Reads to the end of input, and writes each line once it is due: what a read gives is taken before the next one, which may
-/// wait.
-fn write_all_due<R: Threads + Wait + Sync, S: Source, W: Sink, G: Gate + Sync>(
-    crew: &Crew<'_, R, G>,
-    reader: &mut S,
-    writer: &mut W,
-    each: &mut Each,
-    sought: &mut Sought<'_>,
-    showing: &mut Showing,
-    content: LineContent,
-    pointer: &str,
-    buffer: &mut [u8],
-    piece: usize,
-) -> Result<(), ReportFault>
-    requires piece { 1 ≤ piece }
-    requires reader { S.has_failed reader.old ≡ false }
-    requires writer { W.has_failed writer.old ≡ false }
-    requires room { 0 < length buffer.old }
-    requires taken { HasTakenBy content pointer.now [] [] each.old }
-    requires sought { HasSought content (any_names each.old.reader.settings) pointer.now [] sought.old }
-    requires shown { IsShownBy showing.old.by_texts showing.old [] [] }
-    requires ready { each.old.ready ≡ [] }
-    ensures settings { each.new.reader.settings ≡ each.old.reader.settings }
-    ensures ok { OnOk result (IsAllWritten showing.old.by_texts content pointer.now (S.remaining reader.old) (S.remaining reader.new) (W.contents writer.old) (W.contents writer.new) each.new sought.new showing.new) }
-    ensures going { OnOk result ((S.has_failed reader.new ≡ false) × (W.has_failed writer.new ≡ false)) }
-    ensures read { IsErrOf result ReportFault.Read ↔ (S.has_failed reader.new ≡ true) }
-    ensures write { IsErrOf result ReportFault.Write ↔ (W.has_failed writer.new ≡ true) }
-    ensures due { IsErrOf result ReportFault.Read → WroteLinesDue showing.old.by_texts content each.old.reader.settings pointer.now (S.remaining reader.old) (S.remaining reader.new) (W.contents writer.old) (W.contents writer.new) }
-    ensures lines { IsErrOf result ReportFault.Memory → WroteWholeLines showing.old.by_texts content each.old.reader.settings pointer.now (S.remaining reader.old) (S.remaining reader.new) (W.contents writer.old) (W.contents writer.new) }
-    ensures beginning { IsErrOf result ReportFault.Write → WroteLinesInPart showing.old.by_texts content each.old.reader.settings pointer.now (S.remaining reader.old) (S.remaining reader.new) (W.contents writer.old) (W.contents writer.new) }
-    ensures uncut { IfErr result (λ fault. fault ≢ ReportFault.Pieces) }
-{
-    lines_taken_and_waiting();
-    for _ in 0..u64::MAX {
-        match reader.read(buffer) {
-            Ok(0) => return Ok(()),
-            Ok(count) => write_due(crew, writer, each, sought, showing, &buffer[..count], piece)?,
-            Err(_) => return Err(ReportFault::Read),
-        }
-    }
-    Err(ReportFault::Memory)
-}
 
 /// How many bytes are read at a time, at most, for a crew.
 fn room_for<R, G>(crew: &Crew<'_, R, G>) -> usize
@@ -118,52 +41,37 @@ fn report_lines<R: Threads + Wait + Sync, S: Source, W: Sink, E: Sink, G: Gate +
     reader: &mut S,
     writer: &mut W,
     errors: &mut E,
-    settings: &Settings,
-    content: LineContent,
-    by_texts: bool,
-    pointer: &str,
+    task: &ElementsTask<'_>,
     piece: usize,
 ) -> Result<Exit, ReportFault>
-    requires pointer { IsPointer pointer.now }
+    requires pointer { IsPointer task.now.pointer.now }
     requires reader { S.has_failed reader.old ≡ false }
     requires writer { W.has_failed writer.old ≡ false }
-    ensures ok { IfOk result (λ exit. ReportsLines by_texts content settings.now pointer.now (S.remaining reader.old) (S.remaining reader.new)
-        (W.contents writer.old) (W.contents writer.new) (E.has_failed errors.new) (E.contents errors.old) (E.contents errors.new) exit) }
+    ensures ok { IfOk result (λ exit. ReportsAll (ToldOutput task.now.by_texts task.now.content task.now.settings task.now.pointer.now (E.has_failed errors.new) (E.contents errors.old) (E.contents errors.new)) (S.remaining reader.old) (S.remaining reader.new) (W.contents writer.old) (W.contents writer.new) exit) }
     ensures read { IsErrOf result ReportFault.Read ↔ (S.has_failed reader.new ≡ true) }
     ensures write { IsErrOf result ReportFault.Write ↔ (W.has_failed writer.new ≡ true) }
     ensures untold { OnErr result (errors.new ≡ errors.old) }
-    ensures due { IsErrOf result ReportFault.Read → WroteLinesDue by_texts content settings.now pointer.now (S.remaining reader.old) (S.remaining reader.new)
-        (W.contents writer.old) (W.contents writer.new) }
-    ensures lines { IsErrOf result ReportFault.Memory → WroteWholeLines by_texts content settings.now pointer.now (S.remaining reader.old) (S.remaining reader.new)
-        (W.contents writer.old) (W.contents writer.new) }
-    ensures beginning { IsErrOf result ReportFault.Write → WroteLinesInPart by_texts content settings.now pointer.now (S.remaining reader.old) (S.remaining reader.new)
-        (W.contents writer.old) (W.contents writer.new) }
+    ensures due { IsErrOf result ReportFault.Read → WroteDue (IsDue task.now.by_texts task.now.content task.now.settings task.now.pointer.now) (S.remaining reader.old) (S.remaining reader.new) (W.contents writer.old) (W.contents writer.new) }
+    ensures lines { IsErrOf result ReportFault.Memory → WroteLines (IsDue task.now.by_texts task.now.content task.now.settings task.now.pointer.now) (S.remaining reader.old) (S.remaining reader.new) (W.contents writer.old) (W.contents writer.new) }
+    ensures beginning { IsErrOf result ReportFault.Write → WroteInPart (IsDue task.now.by_texts task.now.content task.now.settings task.now.pointer.now) (S.remaining reader.old) (S.remaining reader.new) (W.contents writer.old) (W.contents writer.new) }
     ensures uncut { IfErr result (λ fault. fault ≢ ReportFault.Pieces) }
 {
     lines_due_of_no_byte();
-    lines_taken_and_waiting();
-    let alloc = crew.alloc;
-    let mut each = Each::with_content(alloc, settings, pointer, content)?;
-    let pointers = pointers_of(alloc, content, pointer)?;
-    let mut sought = sought_at_start(alloc, settings, pointers)?;
-    let mut showing = Showing::new(alloc, by_texts);
-    let mut buffer: Vec<u8> = vec![in alloc; 0; room_for(crew)]?;
-    write_all_due(
-        crew,
+    let mut lines = ElementsTeller::new(crew.alloc, task)?;
+    let take = |lines: &mut ElementsTeller<'_>, slice: &[u8]| -> Result<(), AllocError>
+        ensures { OnOk result ((by_texts : Bool) (content : LineContent) (settings : Settings) (pointer bytes given : List ℕ) → HasTaken by_texts content settings pointer bytes given lines.old
+            → HasTaken by_texts content settings pointer (bytes ++ slice.now) given lines.new) }
+    { lines.take(crew, slice, piece) };
+    report_by(
+        crew.alloc,
         reader,
         writer,
-        &mut each,
-        &mut sought,
-        &mut showing,
-        content,
-        pointer,
-        &mut buffer,
-        piece.max(1),
-    )?;
-    let said = told_of_elements(alloc, content, pointer, &each, verdict_of(&each), sought)?;
-    let told = told_with_lone(alloc, pointer, showing.has_lone, said)?;
-    tell(errors, &told);
-    Ok(exit_by(&told))
+        errors,
+        task,
+        &mut lines,
+        room_for(crew),
+        &take,
+    )
 }
 
 /// Reads to the end of input, and writes a line for each element of the array that a pointer leads to, by the first
@@ -195,25 +103,25 @@ pub fn report_elements<R: Threads + Wait + Sync, S: Source, W: Sink, E: Sink, G:
     requires reader { S.has_failed reader.old ≡ false }
     requires writer { W.has_failed writer.old ≡ false }
     // All that the reader had was read, and its whole output was written and told.
-    ensures ok { IfOk result (λ exit. ReportsElements content settings.now pointer.now (S.remaining reader.old) (S.remaining reader.new)
-        (W.contents writer.old) (W.contents writer.new) (E.has_failed errors.new) (E.contents errors.old) (E.contents errors.new) exit) }
+    ensures ok { IfOk result (λ exit. ReportsAll (ToldOutput false content settings.now pointer.now (E.has_failed errors.new) (E.contents errors.old) (E.contents errors.new)) (S.remaining reader.old) (S.remaining reader.new) (W.contents writer.old) (W.contents writer.new) exit) }
     ensures read { IsErrOf result ReportFault.Read ↔ (S.has_failed reader.new ≡ true) }
     ensures write { IsErrOf result ReportFault.Write ↔ (W.has_failed writer.new ≡ true) }
     // After each fault nothing was reported.
     ensures untold { OnErr result (errors.new ≡ errors.old) }
     // After a read fault what is due of the bytes read was written, after a refusal of memory whole lines of that, and after a
     // write fault a beginning of it.
-    ensures due { IsErrOf result ReportFault.Read → WroteDue content settings.now pointer.now (S.remaining reader.old) (S.remaining reader.new)
-        (W.contents writer.old) (W.contents writer.new) }
-    ensures lines { IsErrOf result ReportFault.Memory → WroteLines content settings.now pointer.now (S.remaining reader.old) (S.remaining reader.new)
-        (W.contents writer.old) (W.contents writer.new) }
-    ensures beginning { IsErrOf result ReportFault.Write → WroteInPart content settings.now pointer.now (S.remaining reader.old) (S.remaining reader.new)
-        (W.contents writer.old) (W.contents writer.new) }
+    ensures due { IsErrOf result ReportFault.Read → WroteDue (IsDue false content settings.now pointer.now) (S.remaining reader.old) (S.remaining reader.new) (W.contents writer.old) (W.contents writer.new) }
+    ensures lines { IsErrOf result ReportFault.Memory → WroteLines (IsDue false content settings.now pointer.now) (S.remaining reader.old) (S.remaining reader.new) (W.contents writer.old) (W.contents writer.new) }
+    ensures beginning { IsErrOf result ReportFault.Write → WroteInPart (IsDue false content settings.now pointer.now) (S.remaining reader.old) (S.remaining reader.new) (W.contents writer.old) (W.contents writer.new) }
     ensures uncut { IfErr result (λ fault. fault ≢ ReportFault.Pieces) }
 {
-    report_lines(
-        crew, reader, writer, errors, settings, content, false, pointer, piece,
-    )
+    let task = ElementsTask {
+        settings: *settings,
+        content,
+        by_texts: false,
+        pointer,
+    };
+    report_lines(crew, reader, writer, errors, &task, piece)
 }
 
 /// As `report_elements` with `LineContent::NameAlone`, but of each name it writes the text that it stands for (RFC 8259,
@@ -232,31 +140,23 @@ pub fn report_name_texts<R: Threads + Wait + Sync, S: Source, W: Sink, E: Sink, 
     requires reader { S.has_failed reader.old ≡ false }
     requires writer { W.has_failed writer.old ≡ false }
     // All that the reader had was read, and its whole output was written and told.
-    ensures ok { IfOk result (λ exit. ReportsLines true NameAlone settings.now pointer.now (S.remaining reader.old) (S.remaining reader.new)
-        (W.contents writer.old) (W.contents writer.new) (E.has_failed errors.new) (E.contents errors.old) (E.contents errors.new) exit) }
+    ensures ok { IfOk result (λ exit. ReportsAll (ToldOutput true NameAlone settings.now pointer.now (E.has_failed errors.new) (E.contents errors.old) (E.contents errors.new)) (S.remaining reader.old) (S.remaining reader.new) (W.contents writer.old) (W.contents writer.new) exit) }
     ensures read { IsErrOf result ReportFault.Read ↔ (S.has_failed reader.new ≡ true) }
     ensures write { IsErrOf result ReportFault.Write ↔ (W.has_failed writer.new ≡ true) }
     // After each fault nothing was reported.
     ensures untold { OnErr result (errors.new ≡ errors.old) }
     // After a read fault what is due of the bytes read was written, after a refusal of memory whole lines of that, and after a
     // write fault a beginning of it.
-    ensures due { IsErrOf result ReportFault.Read → WroteLinesDue true NameAlone settings.now pointer.now (S.remaining reader.old) (S.remaining reader.new)
-        (W.contents writer.old) (W.contents writer.new) }
-    ensures lines { IsErrOf result ReportFault.Memory → WroteWholeLines true NameAlone settings.now pointer.now (S.remaining reader.old) (S.remaining reader.new)
-        (W.contents writer.old) (W.contents writer.new) }
-    ensures beginning { IsErrOf result ReportFault.Write → WroteLinesInPart true NameAlone settings.now pointer.now (S.remaining reader.old) (S.remaining reader.new)
-        (W.contents writer.old) (W.contents writer.new) }
+    ensures due { IsErrOf result ReportFault.Read → WroteDue (IsDue true NameAlone settings.now pointer.now) (S.remaining reader.old) (S.remaining reader.new) (W.contents writer.old) (W.contents writer.new) }
+    ensures lines { IsErrOf result ReportFault.Memory → WroteLines (IsDue true NameAlone settings.now pointer.now) (S.remaining reader.old) (S.remaining reader.new) (W.contents writer.old) (W.contents writer.new) }
+    ensures beginning { IsErrOf result ReportFault.Write → WroteInPart (IsDue true NameAlone settings.now pointer.now) (S.remaining reader.old) (S.remaining reader.new) (W.contents writer.old) (W.contents writer.new) }
     ensures uncut { IfErr result (λ fault. fault ≢ ReportFault.Pieces) }
 {
-    report_lines(
-        crew,
-        reader,
-        writer,
-        errors,
-        settings,
-        LineContent::NameAlone,
-        true,
+    let task = ElementsTask {
+        settings: *settings,
+        content: LineContent::NameAlone,
+        by_texts: true,
         pointer,
-        piece,
-    )
+    };
+    report_lines(crew, reader, writer, errors, &task, piece)
 }

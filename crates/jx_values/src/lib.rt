@@ -5,6 +5,7 @@
 mod compact;
 mod counting;
 mod elements;
+mod elements_teller;
 mod form;
 mod gathered;
 mod hints;

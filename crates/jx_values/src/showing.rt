@@ -1,14 +1,13 @@
 // Lines are written as they are made, or each as the text of the string that it is.
-ghost use Rattle.std.specs.Prelude.{◌≡◌, ◌≢◌, ◌↔◌, ◌++◌, ◌||◌, [], ℕ, List, false, true, is_none, unwrap_or, IfErr, IfOk, IsErrOf, OnErr, OnOk};
+ghost use Rattle.std.specs.Prelude.{◌≡◌, ◌++◌, ◌||◌, false, is_none, unwrap_or, IfOk, OnOk};
 ghost use Rattle.std.specs.Char.{encode_utf8};
 ghost use Rattle.std.specs.Char.Utf16.{utf16_chars};
 ghost use Rattle.jx_string.specs.Texts.{string_units, text_of};
-ghost use Rattle.jx_values.specs.NameTexts.{Texts, text_line, text_run, text_step, told_of_lone};
+ghost use Rattle.jx_values.specs.NameTexts.{Texts, no_texts, text_line, text_run, text_step, told_of_lone};
 ghost use Rattle.jx_values.specs.inside.Characters.{spelt_characters};
-ghost use Rattle.jx_values.specs.inside.Showing.{IsShownBy, ShowsOn, ShowsPart};
+ghost use Rattle.jx_values.specs.inside.Showing.{texts_of};
 
 use crate::telling::add_front;
-use jx_ends::{ReportFault, Sink, write_whole};
 use jx_string::{Characters, has_text};
 use std::alloc::{AllocError, Global};
 
@@ -19,6 +18,8 @@ pub struct Showing {
     pub by_texts: bool,
     /// The front of a line that has not ended.
     pub part: Vec<u8>,
+    /// The texts that wait to be written, each in a line.
+    pub ready: Vec<u8>,
     /// Whether a string lacked a text.
     pub has_lone: bool,
 }
@@ -52,65 +53,41 @@ fn push_text_line(out: &mut Vec<u8>, string: &[u8]) -> Result<bool, AllocError>
 impl Showing {
     /// Before the first line.
     pub(crate) fn new(alloc: Global, by_texts: bool) -> Showing
-        ensures texts { result.by_texts ≡ by_texts }
-        ensures shown { IsShownBy by_texts result [] [] }
+        ensures by { result.by_texts ≡ by_texts }
+        ensures texts { texts_of result ≡ no_texts }
     {
         Showing {
             by_texts,
             part: Vec::new(alloc),
+            ready: Vec::new(alloc),
             has_lone: false,
         }
     }
 
     /// Takes in a byte of a line, and appends the text of the line that it ends.
-    fn take(&mut self, out: &mut Vec<u8>, byte: u8) -> Result<(), AllocError>
-        ensures texts { self.new.by_texts ≡ self.old.by_texts }
-        ensures step { OnOk result (record { part = self.new.part.items; lines = out.new.items; lone = self.new.has_lone } ≡ text_step (record { part = self.old.part.items; lines = out.old.items; lone = self.old.has_lone }) byte) }
+    fn take(&mut self, byte: u8) -> Result<(), AllocError>
+        ensures by { self.new.by_texts ≡ self.old.by_texts }
+        ensures step { OnOk result (texts_of self.new ≡ text_step (texts_of self.old) byte) }
     {
         if byte != b'\n' {
             self.part.push(byte)?;
             return Ok(());
         }
-        let is_lone = push_text_line(out, &self.part)?;
+        let is_lone = push_text_line(&mut self.ready, &self.part)?;
         self.has_lone = self.has_lone || is_lone;
         self.part.clear();
         Ok(())
     }
 
-    /// The lines of the texts of these lines.
-    fn texts(&mut self, alloc: Global, lines: &[u8]) -> Result<Vec<u8>, AllocError>
-        ensures texts { self.new.by_texts ≡ self.old.by_texts }
-        ensures run { IfOk result (λ out. record { part = self.new.part.items; lines = out.items; lone = self.new.has_lone } ≡ text_run (record { part = self.old.part.items; lines = []; lone = self.old.has_lone }) lines.now) }
+    /// Takes in lines after those before, and appends the text of each.
+    pub(crate) fn take_lines(&mut self, lines: &[u8]) -> Result<(), AllocError>
+        ensures by { self.new.by_texts ≡ self.old.by_texts }
+        ensures run { OnOk result (texts_of self.new ≡ text_run (texts_of self.old) lines.now) }
     {
-        let mut out = Vec::new(alloc);
         for number in 0..lines.len() {
-            self.take(&mut out, lines[number])?;
+            self.take(lines[number])?;
         }
-        Ok(out)
-    }
-
-    /// Writes these lines after those before.
-    pub(crate) fn write<W: Sink>(
-        &mut self,
-        alloc: Global,
-        writer: &mut W,
-        lines: &[u8],
-    ) -> Result<(), ReportFault>
-        requires { W.has_failed writer.old ≡ false }
-        ensures texts { self.new.by_texts ≡ self.old.by_texts }
-        ensures ok { OnOk result (ShowsOn (W.contents writer.old) (W.contents writer.new) lines.now self.old self.new) }
-        ensures going { OnOk result (W.has_failed writer.new ≡ false) }
-        ensures write { IsErrOf result ReportFault.Write ↔ (W.has_failed writer.new ≡ true) }
-        ensures beginning { IsErrOf result ReportFault.Write → ShowsPart (W.contents writer.old) (W.contents writer.new) lines.now self.old }
-        ensures unwritten { IfErr result (λ fault. fault ≢ ReportFault.Write → writer.new ≡ writer.old) }
-        ensures unread { IfErr result (λ fault. fault ≢ ReportFault.Read) }
-        ensures uncut { IfErr result (λ fault. fault ≢ ReportFault.Pieces) }
-    {
-        if !self.by_texts {
-            return write_whole(writer, lines);
-        }
-        let texts = self.texts(alloc, lines)?;
-        write_whole(writer, &texts)
+        Ok(())
     }
 }
 

@@ -6,7 +6,7 @@ ghost use Rattle.jx_values.specs.Values.{exit_by, shown_pointer, told_line, told
 
 use crate::form::Form;
 use crate::value::{bytes_at, is_written};
-use jx_ends::{Exit, Sink, write_whole};
+use jx_ends::{Exit, Sink};
 use jx_lex::Kind;
 use jx_run::Refusal;
 use jx_words::{PointerAnswer, add_answer, add_refusal, shown_name};
@@ -122,9 +122,7 @@ pub(crate) fn told_of_answers(
 pub fn tell<E: Sink>(errors: &mut E, told: &[u8])
     ensures { E.has_failed errors.new ≡ false → Appends (E.contents errors.old) (E.contents errors.new) told.now }
 {
-    if !errors.failed() {
-        let _ = write_whole(errors, told);
-    }
+    jx_drive::tell(errors, told);
 }
 
 /// The exit of a report: good where nothing is reported.

@@ -1,12 +1,11 @@
 use Rattle.std.proofs.Common.{◌≡◌, ℕ, List, ◌-◌, ◌≤◌, ◌++◌, length, take, subst, arith}
 use Rattle.std.specs.Prelude.{slice_range}
 use Rattle.std.proofs.lemmas.List.Edits.{length-between}
-use Rattle.jx_texts.specs.inside.TextTeller.{HasTaken}
-use Rattle.jx_texts.proofs.Lists.{one_step}
-use Rattle.jx_texts.proofs.teller.TextTeller.take_all.Goals as goal
+use Rattle.jx_drive.proofs.Steps.{one_step}
+use Rattle.jx_drive.proofs.by_steps.take_all.Goals as goal
 
 pub loop-at-preserved : goal.loop-at-preserved
-loop-at-preserved c =
+loop-at-preserved g c =
     let slice : List ℕ = c.args.slice.now in
     let at : ℕ = c.loop-at.at in
     let n : ℕ = c.in_ok-at.field-0 in
@@ -20,6 +19,6 @@ loop-at-preserved c =
       within = omega (arith, low, within);
       count = omega (arith, count, before);
       taken = λ bytes given h.
-          subst (λ (xs : List ℕ). HasTaken c.args.task.now xs given c.take_step.new.self) (one_step bytes slice at n within low)
+          subst (λ (xs : List ℕ). g.T.StepTaker.has_taken c.args.task.now xs given c.take_step.new.self) (one_step bytes slice at n within low)
           (c.in_ok-at.ensures.taken (bytes ++ take at slice) given (c.loop-at.invariant.taken bytes given h));
     }
