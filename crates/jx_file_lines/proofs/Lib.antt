@@ -1,0 +1,4 @@
+pub mod Decodings
+pub mod Entries
+pub mod Starts
+pub mod Told
