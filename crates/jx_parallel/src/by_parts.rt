@@ -94,6 +94,8 @@ fn read_round_of<
     ensures fault { IfErr result (ReadFailsBy (F.may_fail file.now)) }
 {
     let piece = buffer.len();
+    let start = reader.starts();
+    read_to(rt, file, rule, buffer, start, reader)?;
     let from = reader.end();
     let end = from.saturating_add(piece.saturating_mul(count));
     let parts = judged_between::<F, L, K, R>(rt, alloc, file, workers, piece, rule, from, end)?;
@@ -107,7 +109,7 @@ fn read_round_of<
 /// Each worker reads chunks of as many bytes as the buffer has, at least 1, each at its offset, into a buffer of its own. It judges
 /// what it can of each without the bytes before and after. There are so many chunks. When the workers have ended, the reader
 /// takes their parts in order, and reads the bytes between. A read that gives no byte ends the text. A reader that is full ends
-/// the round, and what was judged behind is judged again.
+/// the round, and what was judged behind is judged again. The first chunk begins where the reader says that parts may.
 ///
 /// Memory is kept for a buffer for each worker, and for the parts. If an allocation or a read of a worker fails, the calling
 /// thread reads what is left.

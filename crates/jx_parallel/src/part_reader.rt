@@ -76,4 +76,9 @@ pub trait PartReader: Drop {
     fn is_full(&self) -> bool {
         false
     }
+
+    /// The offset at which the next part may begin. At the head of a round it is fed what is before it.
+    fn starts(&self) -> usize {
+        0
+    }
 }
