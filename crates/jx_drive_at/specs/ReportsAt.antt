@@ -39,7 +39,7 @@ FailsBy may_fail Memory = ⊤
 FailsBy may_fail (Read reason) = may_fail reason
 FailsBy may_fail Write = ⊤
 
--- what a reporter has taken it has read, and what it reads after that it has taken too
+-- a reporter has read all that it has taken, and takes all that it reads after that
 pub record ReadsOn {Given Reporter : Type 0} (has_read : Readings Given Reporter) (HasTaken : List ℕ → Reporter → Type 0) (bytes : List ℕ) (old : Reporter) : Type 0 where
   pub given : Given
   pub read : has_read bytes given old

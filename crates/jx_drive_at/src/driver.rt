@@ -246,7 +246,7 @@ pub fn report_by_rounds<
     task: &T::Task,
     reporter: &mut T,
 ) -> Result<Exit, ReportAtFault<F::Fault>>
-    // What it reads by this rule it takes for this task.
+    // The reporter takes for this task all that it reads by this rule.
     requires reads { (was now : B) (bytes given : List ℕ) (old : T) → T.has_taken task.now was now bytes given old → ReadsOn (T.has_read rule.now) (λ xs. T.has_taken task.now was now xs given) bytes old }
     requires step { 1 ≤ step }
     requires writer { W.has_failed writer.old ≡ false }

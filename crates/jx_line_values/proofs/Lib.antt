@@ -3,6 +3,8 @@ pub mod Ascii
 pub mod Cuts
 pub mod Escapes
 pub mod InFront
+pub mod Plain
+pub mod PartRows
 pub mod Marks
 pub mod Spelt
 pub mod Verdicts

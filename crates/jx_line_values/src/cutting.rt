@@ -1,11 +1,12 @@
 // The values of lines of an input that comes slice by slice.
-ghost use Rattle.std.specs.Prelude.{◌≡◌, ◌<◌, ◌≤◌, ◌++◌, ◌∷◌, ℕ, List, [], IfOk, OnOk, length, take};
+ghost use Rattle.std.specs.Prelude.{◌≡◌, ◌<◌, ◌≤◌, ◌++◌, ◌∷◌, ℕ, List, [], true, IfOk, OnOk, length, take};
 ghost use Rattle.jx_find.specs.PointerTrie.{IsTrieOf};
 ghost use Rattle.jx_ndjson.specs.Lines.{mark_length};
 ghost use Rattle.jx_ndjson.specs.inside.Steps.{HasNoLineFeed};
 ghost use Rattle.jx_line_values.specs.declared.task.LineValuesTask.{LineValuesTask};
 ghost use Rattle.jx_line_values.specs.LineValues.{LineValuesOutput, pointers_of};
 ghost use Rattle.jx_line_values.specs.inside.Cutting.{HasTaken, bare_bytes, line_bytes, line_mark};
+ghost use Rattle.jx_line_values.specs.inside.RowsPart.{ArePlain};
 
 use crate::answering::{LineInFront, add_line};
 use crate::task::LineValuesTask;
@@ -243,6 +244,35 @@ impl LineCutter {
             at += self.take_step(alloc, task, trie, &slice[at..])?;
         }
         Ok(())
+    }
+
+    /// Whether no line goes on, and a line feed has ended one.
+    pub fn is_between(&self) -> bool
+        ensures behind { result ≡ true → 0 < self.now.ended }
+        ensures none_kept { result ≡ true → length self.now.kept ≡ 0 }
+    {
+        self.ended > 0 && self.kept.is_empty()
+    }
+
+    /// Takes the rows of so many lines without a message. It is also out of memory where a line goes on or none has ended, and
+    /// where a number would be too large.
+    pub fn take_rows(&mut self, count: usize, rows: &[u8]) -> Result<(), AllocError>
+        ensures { OnOk result ((task : LineValuesTask) (bytes ys given said : List ℕ) → ArePlain task ys count rows.now → HasTaken task bytes given said self.old → HasTaken task (bytes ++ ys) given said self.new) }
+    {
+        if !self.is_between() {
+            return Err(AllocError);
+        }
+        if count > usize::MAX - self.ended {
+            return Err(AllocError);
+        }
+        self.ready.extend_from_slice(rows)?;
+        self.ended += count;
+        Ok(())
+    }
+
+    /// How many bytes wait, of the output and of the messages.
+    pub fn waiting(&self) -> usize {
+        self.ready.len().saturating_add(self.told.len())
     }
 
     /// The bytes that wait to be written.

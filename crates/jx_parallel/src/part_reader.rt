@@ -4,7 +4,7 @@ ghost use Rattle.std.specs.Prelude.{◌≡◌, ◌+◌, ◌<◌, ◌≤◌, ◌^
 use jx_lex::Depth;
 use std::alloc::{AllocError, Global};
 
-/// How parts of a text are judged whose verdicts are told.
+/// How parts of a text are judged whose verdicts are reported.
 #[derive(Clone, Copy, Debug)]
 pub struct PartRule {
     /// How many containers may be open at once.
@@ -31,7 +31,7 @@ pub trait PartReader: Drop {
     /// The result of judging a part.
     type Part: Drop + Send;
 
-    /// What was given of its reports, before what waits.
+    /// The output and messages that were given, before those that wait.
     ghost Given: { Type 0 };
 
     /// Judging these bytes from an offset on gives this.

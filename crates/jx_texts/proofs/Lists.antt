@@ -1,10 +1,7 @@
 -- Lists of bytes: blanks in front, and what two lists have in common.
-use Rattle.std.proofs.Common.{◌≡◌, ℕ, zero, suc, ◌+◌, ◌-◌, ◌<◌, ◌≤◌, List, [], ◌∷◌, ◌++◌, length, take, drop, get_or, Bool, true, false, refl, sym, ap, subst, append_assoc, ◌∙◌, inl, inr, ◌⊎◌, arith}
+use Rattle.std.proofs.Common.{◌≡◌, ℕ, zero, suc, ◌+◌, ◌<◌, List, [], ◌∷◌, ◌++◌, length, take, get_or, Bool, true, false, refl, sym, ap, subst, ◌∙◌, inl, inr, ◌⊎◌, arith}
 use Rattle.std.specs.Prelude.{◌&&◌, ◌==◌, not}
-use Rattle.std.specs.Prelude.{slice_range}
 use Rattle.std.specs.List.{list_all}
-use Rattle.std.proofs.lemmas.List.{take-take}
-use lib.Seq.{take-add}
 use Rattle.jx_lex.specs.Uneventful.{is_blank}
 use Rattle.jx_texts.specs.Texts.{AreBlanks}
 use Rattle.jx_texts.specs.inside.Steps.{IsUpTo, lacks, present}
@@ -107,13 +104,6 @@ ends_there byte (a ∷ q) [] behind h e =
     clash no (ap not (same_byte byte))
 ends_there byte (a ∷ q) (k ∷ z) behind h e =
     let tail : q ++ byte ∷ [] ≡ (z ++ byte ∷ []) ++ behind = cc in ends_there byte q z behind (and_right (not (a == byte)) (lacks byte q) h) tail
-
--- with a step from an offset on
-pub one_step : (bytes slice : List ℕ) (at n : ℕ) → at ≤ length slice → n ≤ length slice - at → (bytes ++ take at slice) ++ take n (slice_range slice at (length slice)) ≡ bytes ++ take (at + n) slice
-one_step bytes slice at n within low =
-    append_assoc bytes (take at slice) (take n (slice_range slice at (length slice)))
-    ∙ ap (λ (xs : List ℕ). bytes ++ (take at slice ++ xs)) (take-take n (length slice - at) (drop at slice) low)
-    ∙ ap (λ (xs : List ℕ). bytes ++ xs) (sym (take-add at n slice))
 
 pub take_first : (slice : List ℕ) → 0 < length slice → take 1 slice ≡ get_or slice 0 0 ∷ []
 take_first [] h = absurd (omega (arith, h))

@@ -6,7 +6,7 @@ ghost use Rattle.jx_texts.specs.inside.TextTeller.{HasTaken};
 
 use crate::task::TextsTask;
 use crate::teller::TextTeller;
-use jx_drive::report_by;
+use jx_drive::{report_by, take_by_steps};
 use jx_ends::{Exit, ReportFault, Sink, Source};
 use std::alloc::{AllocError, Global};
 
@@ -39,7 +39,7 @@ pub fn report_texts<S: Source, W: Sink>(
     let mut texts = TextTeller::new(alloc, task);
     let take = |texts: &mut TextTeller, slice: &[u8]| -> Result<(), AllocError>
         ensures { OnOk result ((bytes given : List ℕ) → HasTaken task.entry.now bytes given texts.old → HasTaken task.entry.now (bytes ++ slice.now) given texts.new) }
-    { texts.take(task, slice) };
+    { take_by_steps(texts, task, slice) };
     report_by(
         alloc,
         reader,

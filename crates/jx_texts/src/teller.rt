@@ -1,5 +1,5 @@
 // Texts that are reported while the input comes slice by slice.
-ghost use Rattle.std.specs.Prelude.{◌≡◌, ◌+◌, ◌<◌, ◌≤◌, ◌^◌, ◌++◌, ◌∷◌, ℕ, List, [], length, take, IfOk, OnOk};
+ghost use Rattle.std.specs.Prelude.{◌≡◌, ◌++◌, ◌∷◌, [], OnOk};
 ghost use Rattle.jx_words.specs.Words.{line};
 ghost use Rattle.jx_texts.specs.Output.{exit_past, exit_past_verdict, lines_of, text_line, verdict_words};
 ghost use Rattle.jx_texts.specs.Reading.{listed};
@@ -9,7 +9,7 @@ use crate::judged_text::JudgedText;
 use crate::laws::settled_texts_of_a_reader;
 use crate::task::TextsTask;
 use crate::text_reader::TextReader;
-use jx_drive::Reporter;
+use jx_drive::{Reporter, StepTaker};
 use jx_ends::Exit;
 use jx_run::Verdict;
 use jx_words::{add_refusal, add_span};
@@ -97,42 +97,27 @@ impl TextTeller {
         }
         Ok(())
     }
+}
 
-    /// Takes bytes of a slice, and answers how many those are.
-    fn take_step(&mut self, task: &TextsTask, slice: &[u8]) -> Result<usize, AllocError>
-        requires some { 0 < length slice.now }
-        requires fits { self.old.texts.reader.start + self.old.texts.reader.count + length slice.now < 2 ^ 64 }
-        ensures within { IfOk result (λ taken. taken ≤ length slice.now) }
-        ensures some { IfOk result (λ taken. 0 < taken) }
-        ensures taken { IfOk result (λ taken. (bytes given : List ℕ) → HasTaken task.now bytes given self.old → HasTaken task.now (bytes ++ take taken slice.now) given self.new) }
-        ensures count { IfOk result (λ taken. self.new.texts.reader.start + self.new.texts.reader.count ≡ self.old.texts.reader.start + self.old.texts.reader.count + taken) }
-    {
+impl StepTaker for TextTeller {
+    ghost use Rattle.std.specs.Prelude.{◌+◌};
+    ghost use Rattle.jx_texts.specs.inside.TextTeller.{HasTaken};
+
+    type Task = TextsTask;
+
+    ghost has_taken = { HasTaken };
+
+    ghost end = { λ t. t.texts.reader.start + t.texts.reader.count };
+
+    fn end(&self) -> usize {
+        self.texts.end()
+    }
+
+    fn take_step(&mut self, task: &TextsTask, slice: &[u8]) -> Result<usize, AllocError> {
         let step = self.texts.feed(slice)?;
         self.tell(task, step.ended)?;
         self.tell(task, step.refused)?;
         Ok(step.taken)
-    }
-
-    /// Takes a slice step by step. It has an offset just past its last byte.
-    fn take_all(&mut self, task: &TextsTask, slice: &[u8]) -> Result<(), AllocError>
-        requires fits { self.old.texts.reader.start + self.old.texts.reader.count + length slice.now < 2 ^ 64 }
-        ensures taken { OnOk result ((bytes given : List ℕ) → HasTaken task.now bytes given self.old → HasTaken task.now (bytes ++ slice.now) given self.new) }
-    {
-        let mut at = 0;
-        while at < slice.len() {
-            at += self.take_step(task, &slice[at..])?;
-        }
-        Ok(())
-    }
-
-    /// Takes a slice after all bytes that it has taken.
-    pub fn take(&mut self, task: &TextsTask, slice: &[u8]) -> Result<(), AllocError>
-        ensures { OnOk result ((bytes given : List ℕ) → HasTaken task.now bytes given self.old → HasTaken task.now (bytes ++ slice.now) given self.new) }
-    {
-        if slice.len() > usize::MAX - self.texts.end() {
-            return Err(AllocError);
-        }
-        self.take_all(task, slice)
     }
 }
 

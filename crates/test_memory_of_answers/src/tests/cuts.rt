@@ -4,7 +4,9 @@ ghost use Rattle.std.specs.Prelude.{◌≡◌, length};
 
 use crate::tests::answers::{ToldElement, are_equal, verdict_in};
 use crate::tests::calls::{SequenceCall, answer_by_run, crew_of, indexed, tells};
-use crate::tests::inputs::{MARKED_FIVE_ROWS, MARKS, RULES, SETTLED_SEQUENCES, SHORT};
+use crate::tests::inputs::{
+    MARKED_FIVE_ROWS, MARKS, RULES, SETTLED_SEQUENCES, SHORT, Settled, WorkedSequence,
+};
 use jx_answer::{TextAnswer, verdict_of_text};
 use jx_claim::Cutting;
 use jx_crew::{Crew, OpenGate};
@@ -18,34 +20,24 @@ use test_memory_of_runs::inputs::{FIVE_ROWS, settings};
 
 #[test]
 fn short_texts_are_answered_alike_at_every_pair_of_cuts(rt: HostRuntime) {
-    check_short(&rt, rt.alloc(), FrontMark::Refused)
+    check_short(&rt, rt.alloc(), By::One(FrontMark::Refused))
 }
 
 #[test]
 fn short_texts_behind_marks_are_answered_alike_at_every_pair_of_cuts(rt: HostRuntime) {
-    check_short(&rt, rt.alloc(), FrontMark::Ignored)
+    check_short(&rt, rt.alloc(), By::One(FrontMark::Ignored))
 }
 
 const DEPTHS: [u32; 5] = [0, 1, 2, 512, 65535];
 
 #[test]
 fn short_texts_are_answered_alike_at_every_cut_by_two_workers(rt: HostRuntime) {
-    for text in &SHORT {
-        for containers in &DEPTHS {
-            check_by_two(&rt, rt.alloc(), text, *containers);
-        }
-    }
+    check_short(&rt, rt.alloc(), By::Two)
 }
 
 #[test]
 fn sequences_are_answered_alike_at_every_pair_of_cuts(rt: HostRuntime) {
-    let crew = crew_of(&rt, rt.alloc(), 1);
-    for (mark, names, sequences) in &SETTLED_SEQUENCES {
-        let settings = settings(Depth::default(), *mark, *names);
-        for (text, want) in *sequences {
-            check_pairs(&crew, text, &settings, Whole::Elements(want));
-        }
-    }
+    check_settled(&rt, rt.alloc(), &SETTLED_SEQUENCES)
 }
 
 #[test]
@@ -195,12 +187,62 @@ fn check_text<R: Abort + Threads + Wait + Sync>(
     }
 }
 
-// Short texts at every pair of cuts by one worker, within each depth.
-fn check_short<R: Abort + Threads + Wait + Sync>(rt: &R, alloc: Global, mark: FrontMark) {
-    let crew = crew_of(rt, alloc, 1);
-    for text in &SHORT {
+// Who reads short texts.
+#[derive(Clone, Copy)]
+enum By {
+    /// One worker, at every pair of cuts, with this made of a byte order mark.
+    One(FrontMark),
+    /// Two workers, at every cut, by each of the settings.
+    Two,
+}
+
+fn check_short<R: Abort + Threads + Wait + Sync>(rt: &R, alloc: Global, by: By) {
+    check_each(rt, alloc, &SHORT, by)
+}
+
+// Each text within each depth.
+fn check_each<R: Abort + Threads + Wait + Sync>(rt: &R, alloc: Global, texts: &[&[u8]], by: By) {
+    for text in texts {
         for containers in &DEPTHS {
-            check_text(&crew, text, *containers, mark);
+            check_one(rt, alloc, text, *containers, by);
+        }
+    }
+}
+
+fn check_one<R: Abort + Threads + Wait + Sync>(
+    rt: &R,
+    alloc: Global,
+    text: &[u8],
+    containers: u32,
+    by: By,
+) {
+    match by {
+        By::One(mark) => check_text(&crew_of(rt, alloc, 1), text, containers, mark),
+        By::Two => check_by_two(rt, alloc, text, containers),
+    }
+}
+
+fn check_settled<R: Abort + Threads + Wait + Sync>(rt: &R, alloc: Global, lists: &[Settled]) {
+    for (marks, rules, sequences) in lists {
+        for mark in *marks {
+            check_by_rules(rt, alloc, *mark, rules, sequences);
+        }
+    }
+}
+
+// These sequences by each of these rules for names.
+fn check_by_rules<R: Abort + Threads + Wait + Sync>(
+    rt: &R,
+    alloc: Global,
+    mark: FrontMark,
+    rules: &[NameRule],
+    sequences: &[WorkedSequence],
+) {
+    let crew = crew_of(rt, alloc, 1);
+    for names in rules {
+        let settings = settings(Depth::default(), mark, *names);
+        for (text, want) in sequences {
+            check_pairs(&crew, text, &settings, Whole::Elements(want));
         }
     }
 }

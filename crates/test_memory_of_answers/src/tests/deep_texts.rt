@@ -174,6 +174,17 @@ fn check_deep<R: Abort + Threads + Wait + Sync>(
 }
 
 // Each text, read by so many workers.
+fn check_each<R: Abort + Threads + Wait + Sync>(
+    crew: &Crew<'_, R, OpenGate>,
+    texts: &[DeepText],
+    piece: usize,
+    by: &[Setting],
+) {
+    for deep in texts {
+        check_deep(crew, deep, piece, by);
+    }
+}
+
 fn check_all<R: Abort + Threads + Wait + Sync>(
     rt: &R,
     alloc: Global,
@@ -181,10 +192,7 @@ fn check_all<R: Abort + Threads + Wait + Sync>(
     count: u8,
     by: &[Setting],
 ) {
-    let crew = crew_of(rt, alloc, count);
-    for deep in &TEXTS {
-        check_deep(&crew, deep, piece, by);
-    }
+    check_each(&crew_of(rt, alloc, count), &TEXTS, piece, by)
 }
 
 // Whether it is the row of this number of so many arrays, each in the one before.

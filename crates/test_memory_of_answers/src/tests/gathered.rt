@@ -62,9 +62,16 @@ fn cut_texts() -> [(Worked, &'static [usize]); 7] {
 
 #[test]
 fn texts_that_are_cut_are_gathered_to_their_rows(rt: HostRuntime) {
-    let texts = cut_texts();
-    for (worked, cuts) in &texts {
-        check(&rt, rt.alloc(), worked, cuts);
+    check_all(&rt, rt.alloc(), &cut_texts())
+}
+
+fn check_all<R: Abort + Threads + Wait + Sync>(
+    rt: &R,
+    alloc: Global,
+    texts: &[(Worked, &'static [usize])],
+) {
+    for (worked, cuts) in texts {
+        check(rt, alloc, worked, cuts);
     }
 }
 

@@ -157,20 +157,20 @@ const REPEATED_ANY: [WorkedSequence; 1] = [(REPEATED_SEQUENCE, &ANY_NAMES)];
 
 const REPEATED_UNIQUE: [WorkedSequence; 1] = [(REPEATED_SEQUENCE, &UNIQUE_NAMES)];
 
-/// Sequences, each list with what becomes of a byte order mark and of names.
-pub const SETTLED_SEQUENCES: [(FrontMark, NameRule, &[WorkedSequence]); 12] = [
-    (FrontMark::Refused, NameRule::Any, &SEQUENCES),
-    (FrontMark::Refused, NameRule::Any, &BEHIND_REFUSED),
-    (FrontMark::Refused, NameRule::Any, &REPEATED_ANY),
-    (FrontMark::Refused, NameRule::Unique, &SEQUENCES),
-    (FrontMark::Refused, NameRule::Unique, &BEHIND_REFUSED),
-    (FrontMark::Refused, NameRule::Unique, &REPEATED_UNIQUE),
-    (FrontMark::Ignored, NameRule::Any, &SEQUENCES),
-    (FrontMark::Ignored, NameRule::Any, &BEHIND_IGNORED),
-    (FrontMark::Ignored, NameRule::Any, &REPEATED_ANY),
-    (FrontMark::Ignored, NameRule::Unique, &SEQUENCES),
-    (FrontMark::Ignored, NameRule::Unique, &BEHIND_IGNORED),
-    (FrontMark::Ignored, NameRule::Unique, &REPEATED_UNIQUE),
+/// Rules on a byte order mark and rules on names, and sequences that are read by each pair of both.
+pub type Settled = (
+    &'static [FrontMark],
+    &'static [NameRule],
+    &'static [WorkedSequence],
+);
+
+/// Sequences by all settings. A table stands in the frame of each function that names it, so let that do no more than hand it on.
+pub const SETTLED_SEQUENCES: [Settled; 5] = [
+    (&MARKS, &RULES, &SEQUENCES),
+    (&[FrontMark::Refused], &RULES, &BEHIND_REFUSED),
+    (&[FrontMark::Ignored], &RULES, &BEHIND_IGNORED),
+    (&MARKS, &[NameRule::Any], &REPEATED_ANY),
+    (&MARKS, &[NameRule::Unique], &REPEATED_UNIQUE),
 ];
 
 /// Worked texts of at most 24 bytes.

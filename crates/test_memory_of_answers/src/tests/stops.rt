@@ -3,7 +3,9 @@ use crate::tests::answers::LookUp;
 use crate::tests::calls::{
     Asked, LookUps, SEQUENCE_CALLS, TEXT_CALLS, index_of, is_right, pointer_of,
 };
-use crate::tests::inputs::{MARKED_TEXTS, RULES, SETTLED_SEQUENCES, WorkedSequence};
+use crate::tests::inputs::{
+    MARKED_TEXTS, MARKS, RULES, SETTLED_SEQUENCES, Settled, WorkedSequence,
+};
 use jx_crew::{Crew, Workers};
 use jx_index::FindFault;
 use jx_lex::{Depth, Kind};
@@ -16,26 +18,20 @@ use std::thread::Threads;
 use test_memory_of_runs::gates::{MANY, StopFrom};
 use test_memory_of_runs::inputs::{TEXTS, UNSORTED, Worked, settings};
 
-// Texts, each with what becomes of a byte order mark.
-const TEXT_LISTS: [(&[Worked], FrontMark); 3] = [
-    (&TEXTS, FrontMark::Refused),
-    (&TEXTS, FrontMark::Ignored),
-    (&MARKED_TEXTS, FrontMark::Ignored),
+// Texts, and what may become of a byte order mark.
+const TEXT_LISTS: [(&[Worked], &[FrontMark]); 2] = [
+    (&TEXTS, &MARKS),
+    (&MARKED_TEXTS, &[FrontMark::Ignored]),
 ];
 
 #[test]
 fn texts_are_answered_alike_where_workers_stop(rt: HostRuntime) {
-    for (texts, mark) in &TEXT_LISTS {
-        check_texts(&rt, rt.alloc(), texts, *mark);
-    }
+    check_lists(&rt, rt.alloc(), &TEXT_LISTS)
 }
 
 #[test]
 fn sequences_are_answered_alike_where_workers_stop(rt: HostRuntime) {
-    for (mark, names, sequences) in &SETTLED_SEQUENCES {
-        let settings = settings(Depth::default(), *mark, *names);
-        check_sequences(&rt, rt.alloc(), sequences, &settings);
-    }
+    check_settled(&rt, rt.alloc(), &SETTLED_SEQUENCES)
 }
 
 #[test]
@@ -130,6 +126,40 @@ fn check_texts<R: Abort + Threads + Wait + Sync>(
 ) {
     for worked in texts {
         check_text(rt, alloc, worked, mark);
+    }
+}
+
+fn check_lists<R: Abort + Threads + Wait + Sync>(
+    rt: &R,
+    alloc: Global,
+    lists: &[(&[Worked], &[FrontMark])],
+) {
+    for (texts, marks) in lists {
+        for mark in *marks {
+            check_texts(rt, alloc, texts, *mark);
+        }
+    }
+}
+
+fn check_settled<R: Abort + Threads + Wait + Sync>(rt: &R, alloc: Global, lists: &[Settled]) {
+    for (marks, rules, sequences) in lists {
+        for mark in *marks {
+            check_by_rules(rt, alloc, *mark, rules, sequences);
+        }
+    }
+}
+
+// These sequences by each of these rules for names.
+fn check_by_rules<R: Abort + Threads + Wait + Sync>(
+    rt: &R,
+    alloc: Global,
+    mark: FrontMark,
+    rules: &[NameRule],
+    sequences: &[WorkedSequence],
+) {
+    for names in rules {
+        let settings = settings(Depth::default(), mark, *names);
+        check_sequences(rt, alloc, sequences, &settings);
     }
 }
 

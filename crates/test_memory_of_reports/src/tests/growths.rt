@@ -254,7 +254,7 @@ fn command(alloc: Global, case: &Case, count: u8) -> Option<Command>
 // A report's answer, and what is written then after what the room has.
 type Written = (Result<Exit, ReportFault>, Vec<u8>);
 
-/// What a report on an input writes.
+/// The answer of a report on an input, and all that it writes.
 fn written<R: Threads + Wait + Sync>(
     rt: &R,
     alloc: Global,

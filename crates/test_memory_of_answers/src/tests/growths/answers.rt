@@ -75,8 +75,17 @@ fn is_text_meant(call: TextCall, mark: FrontMark) -> bool {
 
 // Each call on each text by so many workers: one reads in one pass and by runs that are joined in an accumulator, two read by runs.
 fn check_texts<R: Abort + Env + Threads + Wait + Sync>(rt: &R, alloc: Global, count: u8) {
+    check_settled_texts(rt, alloc, count, &SETTLED_TEXTS)
+}
+
+fn check_settled_texts<R: Abort + Env + Threads + Wait + Sync>(
+    rt: &R,
+    alloc: Global,
+    count: u8,
+    texts: &[(Worked, FrontMark, NameRule)],
+) {
     let mut lines = Lines::of(rt);
-    for (worked, mark, names) in &SETTLED_TEXTS {
+    for (worked, mark, names) in texts {
         let depth = Depth::new(worked.containers).expect(rt, "a depth");
         let settings = settings(depth, *mark, *names);
         for call in &ALL_TEXT_CALLS {
@@ -96,8 +105,17 @@ fn is_sequence_meant(call: SequenceCall, mark: FrontMark) -> bool {
 
 // Each call on each sequence by so many workers.
 fn check_sequences<R: Abort + Env + Threads + Wait + Sync>(rt: &R, alloc: Global, count: u8) {
+    check_settled_sequences(rt, alloc, count, &SETTLED_SEQUENCES)
+}
+
+fn check_settled_sequences<R: Abort + Env + Threads + Wait + Sync>(
+    rt: &R,
+    alloc: Global,
+    count: u8,
+    sequences: &[(WorkedSequence, FrontMark, NameRule)],
+) {
     let mut lines = Lines::of(rt);
-    for (sequence, mark, names) in &SETTLED_SEQUENCES {
+    for (sequence, mark, names) in sequences {
         let settings = settings(Depth::default(), *mark, *names);
         for call in &ALL_SEQUENCE_CALLS {
             if is_sequence_meant(*call, *mark) && lines.takes_next() {

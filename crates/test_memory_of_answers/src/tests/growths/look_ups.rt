@@ -6,6 +6,7 @@ use jx_index::FindFault;
 use jx_lex::{Depth, Kind};
 use jx_run::{FrontMark, NameRule};
 use std::alloc::Global;
+use std::env::Env;
 use std::process::Abort;
 use std::sync::Wait;
 use std::thread::Threads;
@@ -14,8 +15,10 @@ use test_memory_of_runs::lines::Lines;
 
 const REPEATED_HERE: LookUp = Err(FindFault::NameRepeated { token: 0 });
 
-// Texts, three pointers into each, and the answers to them.
-const LOOK_UPS: [(&[u8], [&str; 3], [LookUp; 3]); 5] = [
+// A text, three pointers into it, and the answers to them.
+type Case = (&'static [u8], [&'static str; 3], [LookUp; 3]);
+
+const LOOK_UPS: [Case; 5] = [
     (
         NESTED,
         ["/0", "/0/0/0", "/-"],
@@ -65,11 +68,16 @@ const LOOK_UPS: [(&[u8], [&str; 3], [LookUp; 3]); 5] = [
 
 #[test]
 fn look_ups_under_a_refused_growth(rt: HostRuntime) {
-    let mut lines = Lines::of(&rt);
-    for look_up in &LOOK_UPS {
+    check_all(&rt, rt.alloc(), &LOOK_UPS)
+}
+
+// Each of these by one worker and by two.
+fn check_all<R: Abort + Env + Threads + Wait + Sync>(rt: &R, alloc: Global, look_ups: &[Case]) {
+    let mut lines = Lines::of(rt);
+    for look_up in look_ups {
         for count in &[1, 2] {
             if lines.takes_next() {
-                check_look_up(&rt, rt.alloc(), look_up, *count);
+                check_look_up(rt, alloc, look_up, *count);
             }
         }
     }
@@ -79,7 +87,7 @@ fn look_ups_under_a_refused_growth(rt: HostRuntime) {
 fn check_look_up<R: Abort + Threads + Wait + Sync>(
     rt: &R,
     alloc: Global,
-    look_up: &(&[u8], [&str; 3], [LookUp; 3]),
+    look_up: &Case,
     count: u8,
 ) {
     let (text, spelt, want) = look_up;

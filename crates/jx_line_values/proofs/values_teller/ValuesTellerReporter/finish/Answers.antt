@@ -7,7 +7,7 @@ use Rattle.jx_line_values.proofs.values_teller.ValuesTellerReporter.finish.Goals
 pub returns : goal.returns
 returns g c =
     let i = c.self.inside in
-    let old : ValuesTellerValue = record { task = i.task.now; cutter = i.cutter } in
+    let old : ValuesTellerValue = record { task = i.task.now; cutter = i.cutter; end = i.end } in
     record {
       ended = IfOk-weaker c.finish.result _ _
           (λ exit outputs was now bytes given h.

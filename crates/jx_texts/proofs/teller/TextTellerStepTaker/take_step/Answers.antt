@@ -5,7 +5,7 @@ use Rattle.jx_texts.specs.Output.{exit_past, lines_of}
 use Rattle.jx_texts.specs.Reading.{HasTold, TextReaderValue, listed}
 use Rattle.jx_texts.specs.inside.TextTeller.{HasTaken, TextTellerValue}
 use Rattle.jx_texts.proofs.Takes.{takes}
-use Rattle.jx_texts.proofs.teller.TextTeller.take_step.Goals as goal
+use Rattle.jx_texts.proofs.teller.TextTellerStepTaker.take_step.Goals as goal
 
 pub returns-clause-taken : goal.returns-clause-taken
 returns-clause-taken c = λ bytes given h.
