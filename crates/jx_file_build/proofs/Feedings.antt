@@ -21,7 +21,7 @@ use Rattle.jx_file_build.specs.Held.{AreAll, AreHeld, AreWhole, HeldValue, IsEnt
 use Rattle.jx_file_build.specs.Indexer.{HasFed}
 use Rattle.jx_file_build.specs.declared.indexer.Indexer.{Indexer}
 use Rattle.jx_file_build.specs.inside.NamedChunks.{AreNames}
-use Rattle.jx_file_build.proofs.Readings.{whole_more}
+use Rattle.jx_file_build.proofs.Readings.{came_to, whole_more}
 
 pub is_none : {A : Type 0} (xs : List A) (b : Bool) → b ≡ (length xs == 0) → b ≡ true → xs ≡ []
 is_none xs b is e = nil_from_length xs (let t : (length xs == 0) ≡ true = sym is ∙ e in grind (arith, nat_tests))
@@ -51,6 +51,14 @@ module _ (has_names : Bool) (settings : Settings) (size : ℕ) (bytes more : Lis
     whole = whole_more has_names settings size was.before full h next was.whole long count (entered was.before was.whole (omega (arith, long)));
     short = let s = was.short in omega (arith, s);
   }
+
+-- it is empty, and a chunk was taken
+pub chunk_taken : (has_names : Bool) (settings : Settings) (size : ℕ) (bytes more : List ℕ) (h next : HeldValue) (part : List ℕ) → AreHeld has_names settings size bytes h part → part ≡ [] → length more ≡ size
+    → length next.entries ≡ suc (length h.entries) → ((before : List ℕ) → AreWhole has_names settings size before h → length more ≤ size → IsEntered has_names settings size (before ++ more) next)
+    → AreHeld has_names settings size (bytes ++ more) next part
+chunk_taken has_names settings size bytes more h next part was none long count entered =
+    subst (λ (xs : List ℕ). AreHeld has_names settings size (bytes ++ more) next xs) (sym none)
+    (part_read has_names settings size bytes more h part was more next (ap (λ (xs : List ℕ). xs ++ more) (sym none)) long count entered)
 
 -- a chunk of a slice
 pub piece_long : (xs : List ℕ) (at size : ℕ) → at + size ≤ length xs → length (slice_range xs at (at + size)) ≡ size
@@ -175,12 +183,12 @@ accepted_goes (reads (too_deep at)) h = absurd cc
 pub accepted_entries : (has_names : Bool) (settings : Settings) (size : ℕ) (bytes : List ℕ) (h : HeldValue) → verdict_on (read_by settings.mark settings.depth 0 bytes) ≡ verdict.Accepted → AreAll has_names settings size bytes h
     → h.entries ≡ entries_of settings size bytes (length h.entries)
 accepted_entries has_names settings size bytes h accepted all =
-    all.entered.entries (subst (λ (o : Option Outcome). is_fault o ≡ false) (sym all.entered.read.outcome) (accepted_goes (read_by settings.mark settings.depth 0 bytes) accepted))
+    all.entered.entries (subst (λ (o : Option Outcome). is_fault o ≡ false) (sym (came_to settings bytes h.reader all.entered.read)) (accepted_goes (read_by settings.mark settings.depth 0 bytes) accepted))
 
 pub accepted_names : (has_names : Bool) (settings : Settings) (size : ℕ) (bytes : List ℕ) (h : HeldValue) → verdict_on (read_by settings.mark settings.depth 0 bytes) ≡ verdict.Accepted → AreAll has_names settings size bytes h
     → AreNames has_names settings size bytes (length h.entries) h.names
 accepted_names has_names settings size bytes h accepted all =
-    all.entered.names (subst (λ (o : Option Outcome). is_fault o ≡ false) (sym all.entered.read.outcome) (accepted_goes (read_by settings.mark settings.depth 0 bytes) accepted))
+    all.entered.names (subst (λ (o : Option Outcome). is_fault o ≡ false) (sym (came_to settings bytes h.reader all.entered.read)) (accepted_goes (read_by settings.mark settings.depth 0 bytes) accepted))
 
 -- no byte is no text
 none_verdict : (m : FrontMark) (limit : ℕ) → verdict_on (read_by m limit 0 []) ≡ verdict.Refused Truncated

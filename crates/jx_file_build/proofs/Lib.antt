@@ -3,6 +3,7 @@ pub mod Feedings
 pub mod Filling
 pub mod Fitting
 pub mod Gathering
+pub mod Lone
 pub mod NamesRead
 pub mod Readings
 pub mod Tallies

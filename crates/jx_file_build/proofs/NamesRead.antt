@@ -1,5 +1,5 @@
 -- The names of chunks that are read one behind another.
-use Rattle.std.proofs.Common.{◌≡◌, ℕ, suc, ◌+◌, ◌*◌, ◌≤◌, List, [], ◌∷◌, ◌++◌, length, take, drop, map, refl, sym, ◌∙◌, ap, subst, arith, Bool, true, false, Option, None, Some}
+use Rattle.std.proofs.Common.{◌≡◌, ℕ, suc, ◌+◌, ◌*◌, ◌≤◌, List, [], ◌∷◌, ◌++◌, length, take, drop, map, sym, ◌∙◌, ap, subst, arith, Bool, true, false, Option, None, Some}
 use Rattle.std.specs.Prelude.{is_some}
 use Rattle.std.proofs.lemmas.List.{length-append, take-append-le, take_all}
 use Rattle.std.proofs.lemmas.List.Sums.{fold-append}
@@ -7,11 +7,9 @@ use Rattle.std.proofs.Math.Nat.{suc-mul}
 use Rattle.std.proofs.Math.Seq.{drop-append_seam, take-append_seam}
 use Rattle.jx_lex.specs.declared.alphabet.mark.Mark.{Mark}
 use Rattle.jx_lex.specs.Lex.{Track}
-use Rattle.jx_reduce.specs.KnownStack.{Known, start}
+use Rattle.jx_reduce.specs.KnownStack.{start}
 use Rattle.jx_reduce.specs.Read.{Reading, step, read}
-use Rattle.jx_run.specs.declared.readers.progress.Progress.{Progress}
-use Rattle.jx_run.specs.Reader.{Outcome, ReaderValue, is_fault, read_by}
-use Rattle.jx_run.specs.ReaderInside.{IsReadTo, outcome_at}
+use Rattle.jx_run.specs.Reader.{HasRead, Outcome, ReaderValue, is_fault, read_by}
 use Rattle.jx_run.specs.Telling.{moved_ends, moved_marks, no_tokens, tokens_by, track_of}
 use Rattle.jx_run.specs.declared.texts.settings.Settings.{Settings}
 use Rattle.jx_index.specs.inside.InTurn.{IsInTurn}
@@ -24,11 +22,12 @@ use Rattle.jx_file_index.specs.Names.{NamesOf}
 use Rattle.jx_file_build.specs.declared.named_chunks.NamedChunks.{NamedChunks}
 use Rattle.jx_file_build.specs.declared.standing.Standing.{Standing}
 use Rattle.jx_file_build.specs.declared.standing.ToldChunk.{ToldChunk}
+use Rattle.jx_file_build.specs.Held.{HasReadBy}
 use Rattle.jx_file_build.specs.TextTables.{HasNames, HasTables}
 use Rattle.jx_file_build.specs.inside.NameBlocks.{AreBlocksOf, AreBlockTables}
 use Rattle.jx_file_build.specs.inside.ChunkNames.{HoldsName, IsTold, Start}
 use Rattle.jx_file_build.specs.inside.NamedChunks.{AreBegun, AreNames, AreNamesAt, AreTold}
-use Rattle.jx_file_build.proofs.Readings.{part_stays}
+use Rattle.jx_file_build.proofs.Readings.{came_to, part_stays}
 
 -- ---- the names of a text that grows
 
@@ -91,11 +90,8 @@ none_told settings size c deep reads free blocks no_token = record {
 }
 
 -- where a reading begins, no token has begun
-pub none_begun : (settings : Settings) (progress : Progress) (stack : Known) (names : Option NamedChunks) → IsReadTo settings 0 [] progress stack
-    → ((c : NamedChunks) → names ≡ Some c → c.standing.begun ≡ None) → AreBegun (outcome_at progress stack.reading) names
-none_begun settings progress stack names read free = λ c is.
-    let at_start : ReaderValue = record { settings = settings; start = 0; count = 0; outcome = outcome_at progress stack.reading } in
-    first_turn at_start c.standing.begun (record { count = refl; outcome = read.outcome }) (ap is_some (free c is))
+pub none_begun : (reader : ReaderValue) (names : Option NamedChunks) → HasRead [] reader → ((c : NamedChunks) → names ≡ Some c → c.standing.begun ≡ None) → AreBegun reader.outcome names
+none_begun reader names read free = λ c is. first_turn reader c.standing.begun read (ap is_some (free c is))
 
 pub some_begun : (outcome : Option Outcome) (c : NamedChunks) → IsInTurn outcome c.standing.begun → AreBegun outcome (Some c)
 some_begun outcome c turn = λ h is. let same : c ≡ h = cc in subst (λ (x : NamedChunks). IsInTurn outcome x.standing.begun) same turn
@@ -111,31 +107,32 @@ before_chunk c base chunk = record {
 }
 
 -- one chunk more
-module _ (settings : Settings) (size : ℕ) (bytes chunk : List ℕ) (n base : ℕ) (at : base ≡ length bytes) (whole : length bytes ≡ n * size) (fits : length chunk ≤ size)
-    (p q : Progress) (k l : Known) (was : IsReadTo settings 0 bytes p k) (now : IsReadTo settings 0 (bytes ++ chunk) q l)
+module _ (settings : Settings) (size : ℕ) (bytes chunk : List ℕ) (n : ℕ) (whole : length bytes ≡ n * size) (fits : length chunk ≤ size)
+    (r q : ReaderValue) (was : HasReadBy settings bytes r) (now : HasReadBy settings (bytes ++ chunk) q)
     (faults : is_fault (Some (read_by settings.mark settings.depth 0 (bytes ++ chunk))) ≡ false → is_fault (Some (read_by settings.mark settings.depth 0 bytes)) ≡ false) where
   -- no slice undoes a fault
-  pub goes_before : is_fault (outcome_at q l.reading) ≡ false → is_fault (outcome_at p k.reading) ≡ false
+  pub goes_before : is_fault q.outcome ≡ false → is_fault r.outcome ≡ false
   goes_before going =
-      subst (λ (o : Option Outcome). is_fault o ≡ false) (sym was.outcome) (faults (subst (λ (o : Option Outcome). is_fault o ≡ false) now.outcome going))
+      subst (λ (o : Option Outcome). is_fault o ≡ false) (sym (came_to settings bytes r was))
+      (faults (subst (λ (o : Option Outcome). is_fault o ≡ false) (came_to settings (bytes ++ chunk) q now) going))
 
   -- where no names are asked for
-  pub none_on : (has_names : Bool) → AreNamesAt has_names settings size bytes n p k None → AreNamesAt has_names settings size (bytes ++ chunk) (suc n) q l None
+  pub none_on : (has_names : Bool) → AreNamesAt has_names settings size bytes n r.outcome None → AreNamesAt has_names settings size (bytes ++ chunk) (suc n) q.outcome None
   none_on true told = λ going. told (goes_before going)
   none_on false told = λ going. tt
 
-  module _ (c new : NamedChunks) (told : ToldChunk) (same_open : new.standing ≡ told.standing) (counted : new.blocks.chunks ≡ suc c.blocks.chunks)
+  module _ (base : ℕ) (at : base ≡ length bytes) (c new : NamedChunks) (told : ToldChunk) (same_open : new.standing ≡ told.standing) (counted : new.blocks.chunks ≡ suc c.blocks.chunks)
       (marks : is_fault (Some (read_by settings.mark settings.depth 0 bytes)) ≡ false
       → (tokens_by settings.mark (bytes ++ chunk)).marks ≡ (tokens_by settings.mark bytes).marks ++ moved_marks (length bytes) (track_of (read_by settings.mark settings.depth 0 bytes) chunk).marks)
-      (tells : is_fault (outcome_at q l.reading) ≡ false → (came : Outcome) → outcome_at p k.reading ≡ Some came
+      (tells : is_fault q.outcome ≡ false → (came : Outcome) → r.outcome ≡ Some came
       → IsTold (before_chunk c base chunk) (track_of came chunk).marks (track_of came chunk).ends told)
       (fills : (names : List (List (List ℕ))) (own : List (List ℕ)) → AreBlocksOf names c.blocks → told.hashes.items ≡ map name_hash own → AreBlocksOf (names ++ own ∷ []) new.blocks) where
-    told_on : AreTold settings size bytes n c → is_fault (outcome_at q l.reading) ≡ false → AreTold settings size (bytes ++ chunk) (suc n) new
+    told_on : AreTold settings size bytes n c → is_fault q.outcome ≡ false → AreTold settings size (bytes ++ chunk) (suc n) new
     told_on t going =
-        let goes : is_fault (Some (read_by settings.mark settings.depth 0 bytes)) ≡ false = subst (λ (o : Option Outcome). is_fault o ≡ false) was.outcome (goes_before going) in
+        let goes : is_fault (Some (read_by settings.mark settings.depth 0 bytes)) ≡ false = subst (λ (o : Option Outcome). is_fault o ≡ false) (came_to settings bytes r was) (goes_before going) in
         let track = track_of (read_by settings.mark settings.depth 0 bytes) chunk in
         let d = t.depth in
-        let made = tells going (read_by settings.mark settings.depth 0 bytes) was.outcome in
+        let made = tells going (read_by settings.mark settings.depth 0 bytes) (came_to settings bytes r was) in
         let of = made.told_of bytes (sym at) t.name_is in
         let all = (tokens_by settings.mark bytes).marks in
         let grown : (tokens_by settings.mark (bytes ++ chunk)).marks ≡ all ++ moved_marks (length bytes) track.marks = marks goes in
@@ -162,7 +159,7 @@ module _ (settings : Settings) (size : ℕ) (bytes chunk : List ℕ) (n base : �
           counted = counted ∙ ap suc t.counted;
         }
 
-    pub names_on : (has_names : Bool) → AreNamesAt has_names settings size bytes n p k (Some c) → AreNamesAt has_names settings size (bytes ++ chunk) (suc n) q l (Some new)
+    pub names_on : (has_names : Bool) → AreNamesAt has_names settings size bytes n r.outcome (Some c) → AreNamesAt has_names settings size (bytes ++ chunk) (suc n) q.outcome (Some new)
     names_on true was_told = λ going. told_on (was_told (goes_before going)) going
     names_on false was_told = λ going. was_told (goes_before going)
 

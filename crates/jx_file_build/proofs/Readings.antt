@@ -3,14 +3,14 @@ use Rattle.std.proofs.Common.{◌≡◌, ℕ, zero, suc, ◌+◌, ◌-◌, ◌*�
 use Rattle.std.proofs.lemmas.List.{drop-append-le, length-append, length-drop, take-append-le, take_all}
 use Rattle.std.proofs.Math.Nat.{suc-mul}
 use Rattle.std.proofs.Math.Seq.{drop-append_seam, take-append_seam}
-use Rattle.jx_run.specs.Reader.{Outcome, is_fault, read_by}
-use Rattle.jx_run.specs.ReaderInside.{IsReadTo, outcome_at}
+use Rattle.jx_run.specs.Reader.{Outcome, ReaderValue, is_fault, read_by}
 use Rattle.jx_run.specs.declared.texts.settings.Settings.{Settings}
 use Rattle.jx_run.proofs.InTurn.{faults_stay}
 use Rattle.jx_file_index.specs.declared.entry.Entry.{Entry}
 use Rattle.jx_file_index.specs.Chunks.{before, entries_of, entry_behind, part}
-use Rattle.jx_file_build.specs.Held.{AreWhole, HeldValue, IsEntered}
+use Rattle.jx_file_build.specs.Held.{AreWhole, HasReadBy, HeldValue, IsEntered}
 use Rattle.jx_file_build.specs.inside.NamedChunks.{AreNames, AreNamesAt}
+use Rattle.jx_file_build.specs.inside.Tallied.{ReadsOn}
 
 -- ---- the entries of a text that grows
 
@@ -42,14 +42,23 @@ entries_more settings size xs chunk n whole fits =
 
 -- ---- chunk by chunk
 
+-- what a reader came to
+pub came_to : (settings : Settings) (bytes : List ℕ) (r : ReaderValue) → HasReadBy settings bytes r → r.outcome ≡ Some (read_by settings.mark settings.depth 0 bytes)
+came_to settings bytes r h =
+    h.read.outcome
+    ∙ ap (λ (s : Settings). Some (read_by s.mark s.depth r.start bytes)) h.by
+    ∙ ap (λ (n : ℕ). Some (read_by settings.mark settings.depth n bytes)) h.start
+
+pub goes_on : (settings : Settings) (bytes more : List ℕ) (old new : ReaderValue) → HasReadBy settings bytes old → ReadsOn old new more → HasReadBy settings (bytes ++ more) new
+goes_on settings bytes more old new h on = record { by = on.settings ∙ h.by; start = on.start ∙ h.start; read = on.reads bytes h.read }
+
 -- what no byte has
-pub none_entered : (has_names : Bool) (settings : Settings) (size : ℕ) (h : HeldValue) → IsReadTo settings 0 [] h.progress h.stack → h.count ≡ 0 → h.entries ≡ []
+pub none_entered : (has_names : Bool) (settings : Settings) (size : ℕ) (h : HeldValue) → HasReadBy settings [] h.reader → h.entries ≡ []
     → AreNames has_names settings size [] 0 h.names → AreWhole has_names settings size [] h
 unfolding entries_of
-none_entered has_names settings size h read count none names = record {
+none_entered has_names settings size h read none names = record {
   entered = record {
     read = read;
-    count = count;
     entries = λ going. none ∙ ap (λ (n : ℕ). entries_of settings size [] n) (sym (ap (λ (es : List Entry). length es) none));
     names = λ going. subst (λ (n : ℕ). AreNames has_names settings size [] n h.names) (sym (ap (λ (es : List Entry). length es) none)) names;
   };
@@ -60,17 +69,16 @@ none_entered has_names settings size h read count none names = record {
 
 -- one chunk more
 pub one_entered : (has_names : Bool) (settings : Settings) (size : ℕ) (bytes chunk : List ℕ) (h new : HeldValue) (entry : Entry) → AreWhole has_names settings size bytes h → length chunk ≤ size
-    → IsReadTo settings 0 (bytes ++ chunk) new.progress new.stack → new.count ≡ h.count + length chunk → new.entries ≡ h.entries ++ entry ∷ []
-    → (is_fault (outcome_at new.progress new.stack.reading) ≡ false → (came : Outcome) → outcome_at h.progress h.stack.reading ≡ Some came → entry ≡ entry_behind came chunk)
-    → AreNamesAt has_names settings size (bytes ++ chunk) (suc (length h.entries)) new.progress new.stack new.names
+    → ReadsOn h.reader new.reader chunk → new.entries ≡ h.entries ++ entry ∷ []
+    → (is_fault new.reader.outcome ≡ false → (came : Outcome) → h.reader.outcome ≡ Some came → entry ≡ entry_behind came chunk)
+    → AreNamesAt has_names settings size (bytes ++ chunk) (suc (length h.entries)) new.reader.outcome new.names
     → IsEntered has_names settings size (bytes ++ chunk) new
-one_entered has_names settings size bytes chunk h new entry was fits read count pushed is names = record {
-  read = read;
-  count = count ∙ ap (λ (n : ℕ). n + length chunk) was.entered.count ∙ sym (length-append bytes chunk);
+one_entered has_names settings size bytes chunk h new entry was fits on pushed is names = record {
+  read = now;
   entries = λ going.
-      let before_is : outcome_at h.progress h.stack.reading ≡ Some (read_by settings.mark settings.depth 0 bytes) = was.entered.read.outcome in
-      let now : is_fault (Some (read_by settings.mark settings.depth 0 (bytes ++ chunk))) ≡ false = subst (λ (o : Option Outcome). is_fault o ≡ false) read.outcome going in
-      let then : is_fault (outcome_at h.progress h.stack.reading) ≡ false = subst (λ (o : Option Outcome). is_fault o ≡ false) (sym before_is) (faults_stay settings.mark settings.depth bytes chunk now) in
+      let before_is : h.reader.outcome ≡ Some (read_by settings.mark settings.depth 0 bytes) = came_to settings bytes h.reader was.entered.read in
+      let after : is_fault (Some (read_by settings.mark settings.depth 0 (bytes ++ chunk))) ≡ false = subst (λ (o : Option Outcome). is_fault o ≡ false) (came_to settings (bytes ++ chunk) new.reader now) going in
+      let then : is_fault h.reader.outcome ≡ false = subst (λ (o : Option Outcome). is_fault o ≡ false) (sym before_is) (faults_stay settings.mark settings.depth bytes chunk after) in
       let old : h.entries ≡ entries_of settings size bytes (length h.entries) = was.entered.entries then in
       pushed
       ∙ ap (λ (es : List Entry). es ++ entry ∷ []) old
@@ -80,6 +88,9 @@ one_entered has_names settings size bytes chunk h new entry was fits read count 
   names = λ going. subst (λ (n : ℕ). AreNames has_names settings size (bytes ++ chunk) n new.names) (sym long) (names going);
 }
   where
+    now : HasReadBy settings (bytes ++ chunk) new.reader
+    now = goes_on settings bytes chunk h.reader new.reader was.entered.read on
+
     long : length new.entries ≡ suc (length h.entries)
     long = ap (λ (es : List Entry). length es) pushed ∙ length-append h.entries (entry ∷ []) ∙ (let e : length h.entries + 1 ≡ suc (length h.entries) = omega arith in e)
 

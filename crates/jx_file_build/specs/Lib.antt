@@ -1,4 +1,5 @@
 pub mod Held
 pub mod Indexer
 pub mod inside
+pub mod LoneChunk
 pub mod TextTables

@@ -1,8 +1,9 @@
 // The sum of the tokens of a chunk.
-ghost use Rattle.std.specs.Prelude.{[]};
+ghost use Rattle.std.specs.Prelude.{◌≡◌, ◌||◌, [], ◌++◌, ℕ, List, IfSome};
+ghost use Rattle.jx_lex.specs.declared.alphabet.mark.Mark.{Mark};
 ghost use Rattle.jx_file_build.specs.inside.Tallied.{Tells};
 
-use jx_file_index::Sum;
+use jx_file_index::{Sum, sum_of_joined_starts};
 use jx_lex::{Mark, TokenCounts, TokenSink};
 use std::alloc::AllocError;
 
@@ -12,6 +13,13 @@ pub struct ChunkSum {
     pub sum: Sum,
     pub begins: bool,
     pub ends: bool,
+}
+
+/// Whether one of them holds.
+fn either(one: bool, other: bool) -> bool
+    ensures { result ≡ (one || other) }
+{
+    one || other
 }
 
 impl ChunkSum {
@@ -24,6 +32,22 @@ impl ChunkSum {
             begins: false,
             ends: false,
         }
+    }
+
+    /// The sum of both parts of a chunk, one after the other. There is none where a count is too large to be held.
+    pub(crate) fn joined(&self, right: &ChunkSum) -> Option<ChunkSum>
+        ensures { IfSome result (λ both. (marks more : List Mark) (ends others : List ℕ) → Tells marks ends self.now.sum self.now.begins self.now.ends
+            → Tells more others right.now.sum right.now.begins right.now.ends → Tells (marks ++ more) (ends ++ others) both.sum both.begins both.ends) }
+    {
+        sum_of_joined_starts();
+        let Some(sum) = self.sum.join(right.sum) else {
+            return None;
+        };
+        Some(ChunkSum {
+            sum,
+            begins: either(self.begins, right.begins),
+            ends: either(self.ends, right.ends),
+        })
     }
 }
 

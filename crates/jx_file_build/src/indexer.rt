@@ -1,5 +1,5 @@
 // An index of a text that is fed by slices, and the tables of its names where these are asked for.
-ghost use Rattle.std.specs.Prelude.{◌≡◌, ◌<◌, ◌≤◌, ◌++◌, [], ℕ, Bool, List, length, take, IfOk, IfErr, IfNone, IfSome, IsErr, OnOk, OnErr};
+ghost use Rattle.std.specs.Prelude.{◌≡◌, ◌<◌, ◌≤◌, ◌++◌, [], ℕ, Bool, List, true, false, length, take, IfOk, IfErr, IfNone, IfSome, IsErr, OnOk, OnErr};
 ghost use Rattle.jx_run.specs.Settings.{JudgedBy};
 ghost use Rattle.jx_run.specs.declared.texts.settings.NameRule.TheVariants.{Any};
 ghost use Rattle.jx_run.specs.declared.texts.settings.Settings.{Settings};
@@ -9,8 +9,10 @@ ghost use Rattle.jx_file_index.specs.SavedTexts.{HasTablesToo};
 ghost use Rattle.jx_file_build.specs.TextTables.{HasNames};
 ghost use Rattle.jx_file_build.specs.Indexer.{HasFed, IsLost};
 ghost use Rattle.jx_file_build.specs.Held.{AreAll, AreHeld};
+ghost use Rattle.jx_file_build.specs.LoneChunk.{IsReadAlone};
 
 use crate::held::Held;
+use crate::lone_chunk::LoneChunk;
 use crate::named_chunks::tables_of;
 use crate::part_filling::fill;
 use jx_file_index::{ChunkSize, Index, SavedText, levels_of};
@@ -57,6 +59,17 @@ fn begin(held: Held, part: &mut Vec<u8>, slice: &[u8], size: usize) -> Result<Be
     let held = held.add(part)?;
     part.clear();
     Ok(Begun { held, len })
+}
+
+/// Whether a chunk of so many bytes comes next: it is whole, and no part of another is kept.
+fn is_next(part: &[u8], len: usize, size: usize) -> bool
+    ensures empty { result ≡ true → part.now ≡ [] }
+    ensures whole { result ≡ true → len ≡ size }
+{
+    if !part.is_empty() {
+        return false;
+    }
+    len == size
 }
 
 /// Reads a slice after all bytes that were fed.
@@ -177,6 +190,34 @@ impl Indexer {
         let next = feed_held(held, &mut self.part, slice, self.chunk.bytes())?;
         self.held = Some(next);
         Ok(())
+    }
+
+    /// Takes a chunk that was read without the bytes before it, as if it had been fed its bytes. Answers whether it did: it does not
+    /// in a chunk that has begun, for a shorter chunk or another depth, where names are asked for, after a fault, where the chunk
+    /// begins in another state than was likely, and where a byte order mark may stand in it. Fails only when out of memory; from then
+    /// on every slice and every chunk is refused.
+    pub fn take(&mut self, chunk: &LoneChunk) -> Result<bool, AllocError>
+        ensures taken { IfOk result (λ is. is ≡ true → (has_names : Bool) (settings : Settings) (size : ℕ) (bytes more : List ℕ) → HasFed has_names settings size bytes self.old
+            → IsReadAlone settings.depth more chunk.now → HasFed has_names settings size (bytes ++ more) self.new) }
+        ensures left { IfOk result (λ is. is ≡ false → self.new ≡ self.old) }
+        ensures err { OnErr result (IsLost self.new) }
+        ensures lost { IsLost self.old → IsErr result }
+    {
+        let Some(held) = &self.held else {
+            return Err(AllocError);
+        };
+        if !is_next(&self.part, chunk.len(), self.chunk.bytes()) {
+            return Ok(false);
+        }
+        let Some(entry) = held.entry_of(chunk) else {
+            return Ok(false);
+        };
+        let Some(held) = self.held.take() else {
+            return Err(AllocError);
+        };
+        let next = held.follow(chunk, entry)?;
+        self.held = Some(next);
+        Ok(true)
     }
 
     /// The index of the text that all bytes fed to it make, and its tables, or why they are not a text, whatever names their

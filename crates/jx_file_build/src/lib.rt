@@ -1,4 +1,4 @@
-//! An index of a text and the tables of its names, made while the text is fed.
+//! An index of a text and the tables of its names, made while the text is fed. Threads may read its chunks before.
 #![tactic(auto)]
 
 mod blocks;
@@ -6,12 +6,13 @@ mod chunk_reading;
 mod chunk_sum;
 mod held;
 mod indexer;
+mod likely;
+mod lone_chunk;
 mod named_chunks;
 mod on_chunk;
 mod part_filling;
 mod sink_pair;
 mod standing;
-mod tally;
-mod telling;
 
 pub use indexer::Indexer;
+pub use lone_chunk::LoneChunk;

@@ -1,12 +1,10 @@
 -- How far the names of a text's chunks were read.
 use Rattle.std.specs.Prelude.{◌≡◌, ℕ, List, Bool, Option, None, Some, true, false}
 use Rattle.std.specs.List.{AllByRecursion}
-use Rattle.jx_reduce.specs.KnownStack.{Known, start}
+use Rattle.jx_reduce.specs.KnownStack.{start}
 use Rattle.jx_reduce.specs.Read.{read}
-use Rattle.jx_run.specs.declared.readers.progress.Progress.{Progress}
 use Rattle.jx_run.specs.declared.texts.settings.Settings.{Settings}
 use Rattle.jx_run.specs.Reader.{Outcome, is_fault}
-use Rattle.jx_run.specs.ReaderInside.{outcome_at}
 use Rattle.jx_run.specs.Telling.{tokens_by}
 use Rattle.jx_index.specs.inside.InTurn.{AreInTurn}
 use Rattle.jx_file_index.specs.declared.name_tables.NameTables.{NameTables}
@@ -34,8 +32,8 @@ AreNames false settings size bytes n (Some c) = ⊥
 AreNames false settings size bytes n None = Unit {0}
 
 -- unless a reading has met a fault
-abbrev pub AreNamesAt : Bool → Settings → ℕ → List ℕ → ℕ → Progress → Known → Option NamedChunks → Type 0
-AreNamesAt has_names settings size bytes n progress stack names = is_fault (outcome_at progress stack.reading) ≡ false → AreNames has_names settings size bytes n names
+abbrev pub AreNamesAt : Bool → Settings → ℕ → List ℕ → ℕ → Option Outcome → Option NamedChunks → Type 0
+AreNamesAt has_names settings size bytes n outcome names = is_fault outcome ≡ false → AreNames has_names settings size bytes n names
 
 -- a token has begun just where a reading is inside one
 abbrev pub AreBegun : Option Outcome → Option NamedChunks → Type 0

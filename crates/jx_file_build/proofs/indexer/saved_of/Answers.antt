@@ -1,4 +1,4 @@
-use Rattle.std.proofs.Common.{◌≡◌, List, Option, ap, length, refl, subst, sym, ◌∙◌}
+use Rattle.std.proofs.Common.{◌≡◌, List, Option, ap, arith, length, refl, subst, sym, ◌∙◌}
 use Rattle.std.specs.Prelude.{IfNone, IfSome}
 use Rattle.jx_run.specs.Laws.{verdict_on}
 use Rattle.jx_run.specs.Reader.{read_by}
@@ -30,7 +30,7 @@ returns-in_ok-names-in-Some-clause-index c = λ has_names bytes all accepted.
       accepted = accepted;
       settings_are = refl;
       chunk_is = refl;
-      size_is = c.count-size.ensures ∙ all.entered.count;
+      size_is = let n = c.count-size.ensures in let start = all.entered.read.start in let long = all.entered.read.read.count in omega (arith, n, start, long);
       count = length c.args.held.entries;
       counted = all.counted;
       levels = subst (λ (es : List Entry). AreLevels es levels.entries.items levels.top) (c.into_kept-kept.ensures.entries ∙ accepted_entries has_names settings c.args.chunk bytes c.args.held came all) made;

@@ -14,7 +14,6 @@ chunks-preserved c =
     let long : length (slice_range bytes at (at + size)) ≡ size = piece_long bytes at size (omega (arith, low, test, some)) in
     record {
       within = omega (arith, low, test, some);
-      count = let n = c.in_ok-held.ensures.count in let before = c.chunks.invariant.count in omega (arith, n, before, long);
       whole = λ has_names settings before h.
           chunk_added has_names settings size before bytes at c.chunks.held c.in_ok-held.held (omega (arith, low, test, some)) (c.chunks.invariant.whole has_names settings before h) c.in_ok-held.ensures.entries
           (λ xs whole le. c.in_ok-held.ensures.entered has_names settings size xs whole le);

@@ -1,4 +1,4 @@
-use Rattle.std.proofs.Common.{◌≡◌, ◌+◌, ◌-◌, ◌≤◌, ◌++◌, ℕ, Bool, List, length, take}
+use Rattle.std.proofs.Common.{◌-◌, ◌≤◌, ◌++◌, ℕ, Bool, List, length, take}
 use Rattle.jx_run.specs.declared.texts.settings.Settings.{Settings}
 use Rattle.jx_file_build.specs.Held.{AreWhole}
 use Rattle.jx_file_build.proofs.held.Held.add_all.Given as goal
@@ -6,7 +6,6 @@ use Rattle.jx_file_build.proofs.held.Held.add_all.Given as goal
 abbrev pub invariant-chunks : goal.invariant-chunks
 invariant-chunks l = record {
   within : l.at ≤ length l.bytes;
-  count : l.held.count ≡ l.fn.self.count + l.at;
   whole : (has_names : Bool) (settings : Settings) (before : List ℕ) → AreWhole has_names settings l.size before l.fn.self → AreWhole has_names settings l.size (before ++ take l.at l.bytes) l.held;
 }
 
