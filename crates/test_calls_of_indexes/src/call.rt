@@ -1,5 +1,6 @@
-// The calls of `jx_file_index` and `jx_file_build`.
+// The calls of `jx_file_index` and `jx_file_build`, and where those of `jx_file_lines` are.
 use crate::answers::{push_loaded, told_by};
+use crate::line_calls;
 use jx_file_index::{ChunkSize, Index, SavedFault, digest_of};
 use std::alloc::AllocError;
 use test_words::{Line, Ways};
@@ -48,7 +49,10 @@ fn load(line: &mut Line<'_>) {
 pub(crate) fn make(line: &mut Line<'_>) {
     match line.word() {
         "digest" => digest(line),
+        "line" => line_calls::line(line),
+        "lines" => line_calls::lines(line),
         "load" => load(line),
+        "load_lines" => line_calls::load_lines(line),
         "save" => save(line),
         _ => line.refuse(),
     }
