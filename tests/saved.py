@@ -552,6 +552,59 @@ def files(seed, count):
                 file.write(data)
 
 
+# ---- texts that several workers read
+
+def long_text(kind, size):
+    """A text of so many bytes or a few more, of which all borders between chunks cut the same sort of thing."""
+    rng = random.Random(kind)
+    items = {
+        "records": lambda n: b'{"id":%d,"name":"n%d","tags":["a","b"],"at":{"x":%d.5,"y":null}}' % (n, n * 7, n),
+        "numbers": lambda n: b"-%d.%de-%d" % (n, 10 ** 30 + n, n % 300),
+        "digits": lambda n: b'"%d"' % (n * n),
+        "literals": lambda n: (b"true", b"false", b"null")[n % 3],
+        "escapes": lambda n: b'"' + b'\\ud83d\\ude00\\"\\\\' * 20 + b'"',
+        "letters": lambda n: '"\u00e9\u4e16\U0001f600"'.encode() * 1,
+        "deep": lambda n: b"[" * (n % 60) + b"1" + b"]" * (n % 60),
+        "blanks": lambda n: b" \n\t " * 50 + b"1",
+        "mixed": lambda n: rng.choice((b"[]", b"{}", b'"' + b"x" * rng.randrange(90000) + b'"', b"%d" % rng.getrandbits(rng.randrange(1, 5000)), b'{"a":[1,{"b":2}]}')),
+    }
+    if kind == "string":
+        return b'"' + b"x" * (size - 2) + b'"'
+    if kind == "closes":
+        return b"[" * 500 + b'"' + b"y" * (size - 1002) + b'"' + b"]" * 500
+    parts, total = [], 1
+    while total < size:
+        parts.append(items[kind](len(parts)))
+        total += len(parts[-1]) + 1
+    return b"[" + b",".join(parts) + b"]"
+
+
+def shared(program, rows):
+    """Each row is a kind of text, bytes and options. What several workers write of it, whole, cut and damaged, is what one writes."""
+    import subprocess
+    right = wrong = 0
+    for row in rows:
+        kind, size, options = (field.strip() for field in row.split("|"))
+        text, options = long_text(kind, int(size)), options.split()
+        chunk = int(options[options.index("--chunk") + 1]) if "--chunk" in options else 32768
+        texts = [text, text[:-1], text + b"x", MARK + text]
+        for at in (chunk * 7, chunk * 7 + 1, chunk * 9 - 1, len(text) // 2):
+            if at < len(text):
+                texts += [text[:at], text[:at] + b"\1" + text[at + 1:], text[:at] + b'"' + text[at + 1:]]
+        for number, data in enumerate(texts):
+            with open("shared.json", "wb") as file:
+                file.write(data)
+            runs = [subprocess.run([program, "save", "--workers", str(workers)] + options + ["shared.json"], capture_output=True) for workers in (1, 2, 4, 7)]
+            answers = [(run.returncode, run.stdout, run.stderr) for run in runs]
+            good = all(answer == answers[0] for answer in answers) and answers[0][0] in (0, 1) and (answers[0][0] == 0) == (len(answers[0][1]) > 0)
+            if number == 0 and "--names" not in options:
+                good = good and answers[0][1] == index_by(data, options)
+            if not good:
+                print("%s: text %d: %s" % (row, number, [(status, len(out), told[:80]) for status, out, told in answers]))
+            right, wrong = right + good, wrong + (not good)
+    print("%d right, %d wrong" % (right, wrong))
+
+
 def main():
     if sys.argv[1] == "lines":
         for line in lines(int(sys.argv[2]), int(sys.argv[3])):
@@ -559,6 +612,9 @@ def main():
         return
     if sys.argv[1] == "files":
         files(int(sys.argv[2]), int(sys.argv[3]))
+        return
+    if sys.argv[1] == "shared":
+        shared(sys.argv[2], [row for row in sys.stdin.read().split("\n") if row])
         return
     if sys.argv[1] == "file":
         with open(sys.argv[2], "rb") as file:

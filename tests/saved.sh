@@ -63,6 +63,38 @@ a_long_text_is_saved_as_by_the_model() {
     same 'progress changes no byte' '0 0' "${PIPESTATUS[*]}"
 }
 
+# WHAT THE BORDERS OF CHUNKS CUT | BYTES | OPTIONS: several workers write what one writes. A file is read at offsets from a MiB on, by chunks of
+# 16384 bytes or more.
+shared_texts() {
+    cat <<'LINES'
+records | 1048576 |
+records | 3000001 | --chunk 16384
+records | 1500000 | --chunk 4096
+records | 1200000 | --names
+records | 1200000 | --unique-names
+numbers | 1200000 |
+digits | 1200000 | --chunk 65536
+literals | 1048577 | --chunk 16384
+escapes | 1300000 |
+letters | 1300000 | --ignore-bom
+deep | 1300000 | --chunk 16384
+deep | 1300000 | --depth 40
+blanks | 1200000 | --chunk 131072
+mixed | 4000000 | --chunk 16384
+mixed | 4000000 | --chunk 1048576
+string | 1200000 |
+closes | 1200000 | --chunk 65536
+LINES
+}
+
+several_workers_write_what_one_writes() {
+    local told
+    told=$(shared_texts | model shared "$program" 2>&1)
+    has "${told##*$'\n'}" ' 0 wrong' " ${told##*, }"
+    same 'none is wrong' '' "$(printf '%s' "$told" | grep ': text ' | head -n 4)"
+    if [[ $told =~ ([0-9]+)\ right ]]; then passed=$((passed + BASH_REMATCH[1])); fi
+}
+
 names_may_have_to_be_unique() {
     printf '{"a":1,"b":{"a":2}}' >unique.json
     "$program" save --unique-names --chunk 64 unique.json | cmp - <(model file unique.json --chunk 64 --unique-names)
@@ -170,6 +202,7 @@ echo "saved.sh: the seed is $seed"
 tests $all \
     files_are_saved_as_by_the_model \
     a_long_text_is_saved_as_by_the_model \
+    several_workers_write_what_one_writes \
     names_may_have_to_be_unique \
     what_is_no_text_has_no_index \
     faults_are_told \

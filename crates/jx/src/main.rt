@@ -126,7 +126,7 @@ fn answer<R: Threads + Wait + Sync>(rt: &HostRuntime, threads: &R) -> Result<Sta
         Order::Lines(order) => tell_lines_of(rt, threads, order),
         Order::Live(order) => tell_elements_of(rt, threads, order),
         Order::Texts(order) => tell_texts_of(rt, threads, order),
-        Order::Save(order) => save_index(rt, &order),
+        Order::Save(order) => save_index(rt, threads, &order),
         Order::Split(order) => write_parts(rt, &order),
     }
 }

@@ -4,14 +4,16 @@ ghost use Rattle.jx_parallel_report.specs.ReportsAt.{IsShared};
 
 use crate::fault::Fault;
 use crate::input::{Reader, file_in, told_of};
+use crate::messages::messages_on;
 use crate::output::{Output, Writer, fault_of_write};
-use jx_command::Input;
+use jx_cmd_index::report_index_at;
+use jx_command::{Input, SaveOrder};
 use jx_crew::Workers;
 use jx_drive_at::ReportAtFault;
 use jx_ends::{End, ReportFault};
 use jx_files::{FileFault, Reason, Status};
 use jx_ndjson_report::LinesTask;
-use jx_parallel::SharedAt;
+use jx_parallel::{CheckFault, SharedAt};
 use jx_parallel_report::{report_at, report_lines_at};
 use jx_task::Command;
 use std::fs::File;
@@ -102,5 +104,33 @@ pub fn report_on_lines<R: Threads + Wait + Sync>(
     match report_lines_at(threads, rt.alloc(), file, writer, task, workers, piece) {
         Ok(exit) => Ok(Status::of_exit(exit)),
         Err(fault) => Err(fault_of(rt, input, writer, fault)),
+    }
+}
+
+/// Writes the index of a file by the workers of an order.
+pub fn save_of_file<R: Threads + Wait + Sync>(
+    rt: &HostRuntime,
+    threads: &R,
+    order: &SaveOrder<'_>,
+    file: &SharedFile,
+) -> Result<Status, Fault> {
+    let mut writer = End::new(Output::of(rt));
+    let mut errors = messages_on(rt, order.input)?;
+    match report_index_at(
+        threads,
+        rt.alloc(),
+        file,
+        &mut writer,
+        &mut errors,
+        &order.settings,
+        order.chunk,
+        order.has_names,
+        order.workers,
+    ) {
+        Ok(Ok(exit)) => Ok(Status::of_exit(exit)),
+        Ok(Err(ReportFault::Write)) => Err(fault_of_write(&writer)),
+        Ok(Err(fault)) => Err(Fault::Report(fault)),
+        Err(CheckFault::Read(reason)) => { Err(told_of(rt, order.input, FileFault::Read(reason))) }
+        Err(CheckFault::Memory) => Err(Fault::Report(ReportFault::Memory)),
     }
 }

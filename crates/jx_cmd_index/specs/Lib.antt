@@ -5,4 +5,5 @@ pub mod PlaceReports
 pub mod SavedBytes
 pub mod SaveOutput
 pub mod SaveReports
+pub mod SavesAt
 pub mod ValueReports

@@ -2,8 +2,10 @@
 pub mod Alone
 pub mod Faults
 pub mod HeldChunks
+pub mod IndexAt
 pub mod Looked
 pub mod Saving
+pub mod Shown
 pub mod Splitting
 pub mod Texts
 pub mod ValueLines

@@ -1,33 +1,16 @@
 // Writes the index of an input, or reports why there is none.
-ghost use Rattle.std.specs.Prelude.{◌≡◌, ◌≢◌, ◌↔◌, true, false, IfOk, IfErr, IsErrOf, OnErr, OnOk};
-ghost use Rattle.std.specs.Io.KnownBytes.{Appends};
-ghost use Rattle.jx_ends.specs.Ends.{AppendsBeginning};
-ghost use Rattle.jx_file_index.specs.TextSpelling.{spelt_saved};
+ghost use Rattle.std.specs.Prelude.{◌≡◌, ◌≢◌, ◌↔◌, true, false, IfOk, IfErr, IsErrOf, OnErr};
 ghost use Rattle.jx_cmd_index.specs.SaveReports.{ReportsIndex, ReportsIndexInPart};
 
+use crate::saved_showing::show_saved;
 use crate::text_reading::read_text;
-use jx_ends::{Exit, ReportFault, Sink, Source, write_whole};
-use jx_file_index::{ChunkSize, SavedText};
+use jx_ends::{Exit, ReportFault, Sink, Source};
+use jx_file_index::ChunkSize;
 use jx_run::Settings;
-use jx_values::{tell, told_of_refusal};
 use std::alloc::Global;
 
 /// How many bytes are read at a time, at least. They are looked at before they leave the processor's cache.
 const BATCH: usize = 256 * 1024;
-
-/// Writes the bytes of what is saved of a text.
-fn write_saved<W: Sink>(alloc: Global, writer: &mut W, saved: &SavedText) -> Result<(), ReportFault>
-    requires { W.has_failed writer.old ≡ false }
-    ensures ok { OnOk result (Appends (W.contents writer.old) (W.contents writer.new) (spelt_saved saved.now)) }
-    ensures write { IsErrOf result ReportFault.Write ↔ (W.has_failed writer.new ≡ true) }
-    ensures beginning { IsErrOf result ReportFault.Write → AppendsBeginning (W.contents writer.old) (W.contents writer.new) (spelt_saved saved.now) }
-    ensures unwritten { IfErr result (λ fault. fault ≢ ReportFault.Write → writer.new ≡ writer.old) }
-    ensures unread { IfErr result (λ fault. fault ≢ ReportFault.Read) }
-    ensures uncut { IfErr result (λ fault. fault ≢ ReportFault.Pieces) }
-{
-    let bytes = saved.encode(alloc)?;
-    write_whole(writer, &bytes)
-}
 
 /// Reads a text to the end of input, and then writes the bytes of its index, for chunks of this size, with tables of
 /// its names after it where these are asked for. Of an input that is refused nothing is written, and its verdict is
@@ -62,15 +45,5 @@ pub fn report_index<S: Source, W: Sink, E: Sink>(
 {
     let batch = BATCH.max(chunk.bytes());
     let read = read_text(alloc, reader, settings, chunk, has_names, batch)?;
-    match read {
-        Ok(saved) => {
-            write_saved(alloc, writer, &saved)?;
-            Ok(Exit::Good)
-        }
-        Err(refusal) => {
-            let told = told_of_refusal(alloc, refusal)?;
-            tell(errors, &told);
-            Ok(Exit::Bad)
-        }
-    }
+    show_saved(alloc, writer, errors, read)
 }

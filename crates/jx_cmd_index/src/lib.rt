@@ -5,6 +5,8 @@
 mod answers;
 mod file_part;
 mod held_chunk;
+mod index_at;
+mod index_reader;
 mod index_reporting;
 mod look_fault;
 mod looking;
@@ -14,6 +16,7 @@ mod place_lines;
 mod places_reporting;
 mod read_at;
 mod saved_reading;
+mod saved_showing;
 mod saving;
 mod splitting;
 mod text_reading;
@@ -22,6 +25,7 @@ mod value_reading;
 mod values_reporting;
 mod walking;
 
+pub use index_at::report_index_at;
 pub use index_reporting::report_index;
 pub use look_fault::LookFault;
 pub use parts_reporting::report_parts;

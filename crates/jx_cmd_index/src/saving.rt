@@ -1,11 +1,12 @@
 // The state of an input whose index is saved, with tables of its names where these are asked for, while it is read.
-ghost use Rattle.std.specs.Prelude.{◌≡◌, ◌++◌, [], ℕ, Bool, List, IfOk, OnOk};
+ghost use Rattle.std.specs.Prelude.{◌≡◌, ◌++◌, [], ℕ, Bool, List, true, false, IfOk, OnOk};
 ghost use Rattle.jx_run.specs.declared.texts.settings.NameRule.TheVariants.{Unique};
 ghost use Rattle.jx_run.specs.declared.texts.settings.Settings.{Settings};
 ghost use Rattle.jx_file_index.specs.Index.{IsIndexOf};
+ghost use Rattle.jx_file_build.specs.LoneChunk.{IsReadAlone};
 ghost use Rattle.jx_cmd_index.specs.inside.Saving.{ComesToSaved, IsByNames, IsSavingOf, any_names};
 
-use jx_file_build::Indexer;
+use jx_file_build::{Indexer, LoneChunk};
 use jx_file_index::{ChunkSize, Index, SavedText};
 use jx_names::NamesReader;
 use jx_run::{NameRule, Refusal, Settings, Verdict, unique_verdict_by_settings};
@@ -110,6 +111,18 @@ impl Saving {
                 names.feed(batch)?;
                 indexer.feed(batch)
             }
+        }
+    }
+
+    /// Takes a chunk that was read without the bytes before it, and answers whether it did.
+    pub fn take(&mut self, chunk: &LoneChunk) -> Result<bool, AllocError>
+        ensures taken { IfOk result (λ is. is ≡ true → (has_names : Bool) (settings : Settings) (size : ℕ) (bytes more : List ℕ) → IsSavingOf has_names settings size bytes self.old
+            → IsReadAlone settings.depth more chunk.now → IsSavingOf has_names settings size (bytes ++ more) self.new) }
+        ensures left { IfOk result (λ is. is ≡ false → self.new ≡ self.old) }
+    {
+        match self {
+            Saving::Any(indexer) => indexer.take(chunk),
+            Saving::Unique { .. } => Ok(false),
         }
     }
 

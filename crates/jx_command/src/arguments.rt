@@ -291,7 +291,7 @@ fn order_from<'a>(
         Called::Count => Ok(elements_order(EachForm::Count, workers, options)),
         Called::Lines => Ok(Order::Lines(lines_order_from(alloc, workers, options)?)),
         Called::Texts => Ok(Order::Texts(live_order_from(alloc, options)?)),
-        Called::Save => Ok(Order::Save(save_order_from(options)?)),
+        Called::Save => Ok(Order::Save(save_order_from(workers, options)?)),
         Called::Split => Ok(Order::Split(split_order_from(options))),
         Called::Part => Ok(Order::Parts(part_order_from(options))),
         Called::Join => Ok(Order::Parts(join_order_from(options))),

@@ -269,6 +269,10 @@ const SAVE: CommandRow = CommandRow {
     args: &[
         option::FILE,
         option::DEPTH,
+        ArgRow {
+            long_help: help::SAVE_WORKERS,
+            ..option::WORKERS
+        },
         option::CHUNK,
         option::TABLES,
         option::IGNORE_BOM,

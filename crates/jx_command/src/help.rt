@@ -182,6 +182,12 @@ every number. Of a FILE each worker reads chunks of 256 KiB for
 itself, from a MiB on. Of standard input or a pipe they share what
 one read gives, from a MiB on.";
 
+pub const SAVE_WORKERS: &str = "Share the work among N workers, 1 to 64, or auto: one for each
+processor that jx may use, at most 16. The output is the same for
+every number. Of a FILE of a MiB at least each worker reads chunks of
+16384 bytes or more for itself. One worker reads standard input and
+pipes, and with --names, --unique-names or --progress always.";
+
 pub const READ_WORKERS: &str = "Share the work among N workers, 1 to 64, or auto: one for each
 processor that jx may use, at most 16. The answer is the same for
 every number. They share what one read gives, from a MiB on.";

@@ -185,6 +185,8 @@ pub struct SaveOrder<'a> {
     pub chunk: ChunkSize,
     /// Whether tables of its names follow the index.
     pub has_names: bool,
+    /// How many workers read a file.
+    pub workers: Workers,
     /// Whether progress is shown.
     pub progress: ShowProgress,
 }

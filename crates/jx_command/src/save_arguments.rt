@@ -4,6 +4,7 @@ use crate::arguments::settings_of;
 use crate::options::{input_of_word, progress_of};
 use crate::order::SaveOrder;
 use clap::ArgMatches;
+use jx_crew::Workers;
 use jx_file_index::ChunkSize;
 
 /// How many bytes a chunk has by the options, if they say and it is one of its sizes.
@@ -13,7 +14,10 @@ fn chunk_of(options: &ArgMatches<'_>) -> Option<ChunkSize> {
 }
 
 /// The order of its options. The grammar has a number of bytes where the words leave it out.
-pub(crate) fn save_order_from<'a>(options: &ArgMatches<'a>) -> Result<SaveOrder<'a>, ArgFault> {
+pub(crate) fn save_order_from<'a>(
+    workers: Workers,
+    options: &ArgMatches<'a>,
+) -> Result<SaveOrder<'a>, ArgFault> {
     let Some(chunk) = chunk_of(options) else {
         return Err(ArgFault::Chunk);
     };
@@ -22,6 +26,7 @@ pub(crate) fn save_order_from<'a>(options: &ArgMatches<'a>) -> Result<SaveOrder<
         settings: settings_of(options),
         chunk,
         has_names: options.get_flag("names"),
+        workers,
         progress: progress_of(options),
     })
 }
