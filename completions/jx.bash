@@ -53,7 +53,7 @@ _jx() {
     seq) mapfile -t COMPREPLY < <(compgen -W '-f --file --depth --workers --piece --ignore-bom --unique-names --live -H --with-filename -q --quiet -h --help' -- "$word") ;;
     lines) mapfile -t COMPREPLY < <(compgen -W '-f --file --depth --workers --piece --ignore-bom --skip-blank -H --with-filename -q --quiet --pass --bad --max -l --list --format -h --help' -- "$word") ;;
     texts) mapfile -t COMPREPLY < <(compgen -W '-f --file --depth -H --with-filename -q --quiet -h --help' -- "$word") ;;
-    save) mapfile -t COMPREPLY < <(compgen -W '-f --file --depth --chunk --names --ignore-bom --unique-names --progress -h --help' -- "$word") ;;
+    save) mapfile -t COMPREPLY < <(compgen -W '-f --file --depth --workers --chunk --names --ignore-bom --unique-names --progress -h --help' -- "$word") ;;
     split) mapfile -t COMPREPLY < <(compgen -W '--index -f --file --parts -h --help' -- "$word") ;;
     part) mapfile -t COMPREPLY < <(compgen -W '-f --file --from --depth -h --help' -- "$word") ;;
     join) mapfile -t COMPREPLY < <(compgen -W '-f --file --depth -h --help' -- "$word") ;;

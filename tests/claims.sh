@@ -52,8 +52,11 @@ jx.1 | With --unique-names one thread reads, at most 256 KiB at a time. | memory
 jx.1 | One of them reads the text and makes its index. They share the lines of 32768 values or more. | threads 0 0 | text.360428 | index --workers 4
 jx.1 | One of them reads the text and makes its index. They share the lines of 32768 values or more. | threads 2 2 | text.360429 | index --workers 4
 jx.1 | One of them reads the text and makes its index. They share the lines of 32768 values or more. | threads 4 - | text.20000000 | index --workers 4
-jx.1 | One worker reads the text, looks up fewer pointers, looks up by --index, and answers with --lines. | threads 0 0 | text.20000000 | get /1 /2
-jx.1 | One worker reads the text, looks up fewer pointers, looks up by --index, and answers with --lines. | threads 0 0 | lines.20000000 | get --lines /n
+jx.1 | One worker reads the text, looks up fewer pointers, and looks up by --index. | threads 0 0 | text.20000000 | get /1 /2
+jx.1 | With --lines each reads chunks of 256 KiB of a FILE, from a MiB on. | threads 0 0 | lines.1048575 | get --workers 4 --lines /n
+jx.1 | With --lines each reads chunks of 256 KiB of a FILE, from a MiB on. | threads 4 - | lines.1200000 | get --workers 4 --lines /n
+jx.1 | With --lines each reads chunks of 256 KiB of a FILE, from a MiB on. | threads 0 0 | cat lines.20000000 | get --workers 4 --lines /n
+jx.1 | With --lines each reads chunks of 256 KiB of a FILE, from a MiB on. | given 20000000 21000000 | lines.20000000 | get --workers 4 --lines /n
 jx.1 | They share what one read gives, from a MiB on. | threads 4 - | text.20000000 | each --workers 4
 jx.1 | A regular FILE of a MiB or more is read by workers, each for itself. | threads 0 0 | lines.1048575 | lines --workers 4 -q
 jx.1 | A regular FILE of a MiB or more is read by workers, each for itself. | threads 4 - | lines.1200000 | lines --workers 4 -q
@@ -67,7 +70,8 @@ jx.1 | One worker reads, and no element is kept in memory. | memory - 8000 | seq
 jx.1 | Up to 64 pointers, only their values are kept in memory. | memory - 8000 | text.20000000 | get /1 /2 /1
 jx.1 | With more pointers, or with --unique-names, the whole input is. | memory 19500 - | text.20000000 | get --pointers many
 jx.1 | With more pointers, or with --unique-names, the whole input is. | memory 19500 - | text.20000000 | get --unique-names /1
-jx.1 | With --lines one line is kept. | memory - 8000 | lines.20000000 | get --lines /n
+jx.1 | With --lines one line is kept, and by several workers the rows of 64 chunks. | memory - 8000 | lines.20000000 | get --workers 1 --lines /n
+jx.1 | With --lines one line is kept, and by several workers the rows of 64 chunks. | memory - 60000 | lines.120000000 | get --workers 4 --lines /n
 jx.1 | With 10000 pointers or more the whole input is | memory 19500 - | text.20000000 | at --pointers many
 jx.1 | The text is read to its end, and one element is kept in memory. | memory - 8000 | text.20000000 | each
 jx.1 | One thread reads. | threads 0 0 | text.20000000 | save

@@ -1,10 +1,12 @@
 // Regular files, which workers read at offsets, each for itself.
-ghost use Rattle.std.specs.Prelude.{◌≡◌, ◌≤◌, false, IfErr};
+ghost use Rattle.std.specs.Prelude.{◌≡◌, ◌≤◌, All, false, IfErr};
+ghost use Rattle.jx_index.specs.Pointers.{IsPointer};
+ghost use Rattle.jx_line_values.specs.LineValues.{pointers_of};
 ghost use Rattle.jx_parallel_report.specs.ReportsAt.{IsShared};
 
 use crate::fault::Fault;
 use crate::input::{Reader, file_in, told_of};
-use crate::messages::messages_on;
+use crate::messages::{Messages, messages_on};
 use crate::output::{Output, Writer, fault_of_write};
 use jx_cmd_index::report_index_at;
 use jx_command::{Input, SaveOrder};
@@ -12,6 +14,7 @@ use jx_crew::Workers;
 use jx_drive_at::ReportAtFault;
 use jx_ends::{End, ReportFault};
 use jx_files::{FileFault, Reason, Status};
+use jx_line_values::{LineValuesTask, report_line_values_at};
 use jx_ndjson_report::LinesTask;
 use jx_parallel::{CheckFault, SharedAt};
 use jx_parallel_report::{report_at, report_lines_at};
@@ -102,6 +105,37 @@ pub fn report_on_lines<R: Threads + Wait + Sync>(
     requires piece { 1 ≤ piece }
 {
     match report_lines_at(threads, rt.alloc(), file, writer, task, workers, piece) {
+        Ok(exit) => Ok(Status::of_exit(exit)),
+        Err(fault) => Err(fault_of(rt, input, writer, fault)),
+    }
+}
+
+/// Writes the values of each line of a file by several workers.
+pub fn write_values_of_lines<R: Threads + Wait + Sync>(
+    rt: &HostRuntime,
+    threads: &R,
+    input: Input<'_>,
+    file: &SharedFile,
+    writer: &mut Writer,
+    errors: &mut End<Messages>,
+    task: &LineValuesTask,
+    workers: Workers,
+    piece: usize,
+) -> Result<Status, Fault>
+    requires pointers { All IsPointer (pointers_of task.now) }
+    requires writer { writer.old.failed ≡ false }
+    requires piece { 1 ≤ piece }
+{
+    match report_line_values_at(
+        threads,
+        rt.alloc(),
+        file,
+        writer,
+        errors,
+        task,
+        workers,
+        piece,
+    ) {
         Ok(exit) => Ok(Status::of_exit(exit)),
         Err(fault) => Err(fault_of(rt, input, writer, fault)),
     }

@@ -69,7 +69,7 @@ pub fn write_values_of<R: Threads + Wait + Sync>(
         task.add_pointers(rt.alloc(), lines.as_str())?;
     }
     if let Some(by_line) = by_line {
-        return write_line_values_of(rt, input, task, by_line);
+        return write_line_values_of(rt, threads, input, task, by_line);
     }
     let form = Form { is_compact, is_raw };
     match (index, input) {

@@ -166,8 +166,9 @@ and looks up by --index.";
 pub const GET_WORKERS: &str = "Share the work among N workers, 1 to 64, or auto: one for each
 processor that jx may use, at most 16. The answer is the same for
 every number. They look up many pointers: 10000, and one for each 128
-bytes of text. One worker reads the text, looks up fewer pointers,
-looks up by --index, and answers with --lines.";
+bytes of text. With --lines each reads chunks of 256 KiB of a FILE,
+from a MiB on. One worker reads the text, looks up fewer pointers,
+and looks up by --index.";
 
 pub const SEQ_WORKERS: &str = "Share the work among N workers, 1 to 64, or auto: one for each
 processor that jx may use, at most 16. The answer is the same for
