@@ -1,11 +1,11 @@
 // Elements of a text sequence that are reported while the input comes slice by slice.
-ghost use Rattle.std.specs.Prelude.{◌≡◌, ◌+◌, ◌<◌, ◌≤◌, ◌^◌, ◌++◌, ℕ, List, [], length, take, IfOk, OnOk};
+ghost use Rattle.std.specs.Prelude.{◌≡◌, ◌++◌, [], OnOk};
 ghost use Rattle.jx_report.specs.Elements.{exit_past_verdict};
 ghost use Rattle.jx_ndjson_report.specs.inside.ElementTeller.{HasTaken, one_line};
 
 use crate::task::ElementsTask;
 use crate::words::add_element;
-use jx_drive::Reporter;
+use jx_drive::{Reporter, StepTaker};
 use jx_ends::Exit;
 use jx_ndjson::{ElementReader, ended_elements_of_a_reader};
 use jx_run::{ElementVerdict, JudgedElement};
@@ -78,15 +78,24 @@ impl ElementTeller {
         self.exit = exit_past(self.exit, element.verdict);
         Ok(())
     }
+}
 
-    /// Takes a slice up to and with its first record separator, or less, and answers how many bytes those are.
-    fn take_step(&mut self, task: &ElementsTask, slice: &[u8]) -> Result<usize, AllocError>
-        requires fits { self.old.elements.reader.start + self.old.elements.reader.count + length slice.now < 2 ^ 64 }
-        ensures within { IfOk result (λ taken. taken ≤ length slice.now) }
-        ensures some { IfOk result (λ taken. 0 < length slice.now → 0 < taken) }
-        ensures taken { IfOk result (λ taken. (bytes given : List ℕ) → HasTaken task.now bytes given self.old → HasTaken task.now (bytes ++ take taken slice.now) given self.new) }
-        ensures count { IfOk result (λ taken. self.new.elements.reader.start + self.new.elements.reader.count ≡ self.old.elements.reader.start + self.old.elements.reader.count + taken) }
-    {
+impl StepTaker for ElementTeller {
+    ghost use Rattle.std.specs.Prelude.{◌+◌};
+    ghost use Rattle.jx_ndjson_report.specs.inside.ElementTeller.{HasTaken};
+
+    type Task = ElementsTask;
+
+    ghost has_taken = { HasTaken };
+
+    ghost end = { λ t. t.elements.reader.start + t.elements.reader.count };
+
+    fn end(&self) -> usize {
+        self.elements.end()
+    }
+
+    /// Takes a slice up to and with its first record separator, or less.
+    fn take_step(&mut self, task: &ElementsTask, slice: &[u8]) -> Result<usize, AllocError> {
         let step = self.elements.feed(slice)?;
         match step.element {
             None => Ok(step.taken),
@@ -95,28 +104,6 @@ impl ElementTeller {
                 Ok(step.taken)
             }
         }
-    }
-
-    /// Takes a slice element by element. It has an offset just past its last byte.
-    fn take_all(&mut self, task: &ElementsTask, slice: &[u8]) -> Result<(), AllocError>
-        requires fits { self.old.elements.reader.start + self.old.elements.reader.count + length slice.now < 2 ^ 64 }
-        ensures taken { OnOk result ((bytes given : List ℕ) → HasTaken task.now bytes given self.old → HasTaken task.now (bytes ++ slice.now) given self.new) }
-    {
-        let mut at = 0;
-        while at < slice.len() {
-            at += self.take_step(task, &slice[at..])?;
-        }
-        Ok(())
-    }
-
-    /// Takes a slice after all bytes that it has taken.
-    pub fn take(&mut self, task: &ElementsTask, slice: &[u8]) -> Result<(), AllocError>
-        ensures { OnOk result ((bytes given : List ℕ) → HasTaken task.now bytes given self.old → HasTaken task.now (bytes ++ slice.now) given self.new) }
-    {
-        if slice.len() > usize::MAX - self.elements.end() {
-            return Err(AllocError);
-        }
-        self.take_all(task, slice)
     }
 }
 

@@ -10,7 +10,7 @@ use crate::element_teller::ElementTeller;
 use crate::line_teller::LineTeller;
 use crate::task::{ElementsTask, LinesTask};
 use jx_crew::{Crew, Gate};
-use jx_drive::report_by;
+use jx_drive::{report_by, take_by_steps};
 use jx_ends::{Exit, ReportFault, Sink, Source};
 use std::alloc::AllocError;
 use std::sync::Wait;
@@ -108,7 +108,7 @@ pub fn report_sequence<R: Threads + Wait + Sync, S: Source, W: Sink, G: Gate + S
     let mut elements = ElementTeller::new(crew.alloc, task);
     let take = |elements: &mut ElementTeller, slice: &[u8]| -> Result<(), AllocError>
         ensures { OnOk result ((bytes given : List ℕ) → HasTakenElements task.entry.now bytes given elements.old → HasTakenElements task.entry.now (bytes ++ slice.now) given elements.new) }
-    { elements.take(task, slice) };
+    { take_by_steps(elements, task, slice) };
     report_by(
         crew.alloc,
         reader,

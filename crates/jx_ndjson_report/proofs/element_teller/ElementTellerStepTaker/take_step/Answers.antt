@@ -6,7 +6,7 @@ use Rattle.jx_ndjson.specs.ElementReading.{ElementReaderValue, HasToldElements}
 use Rattle.jx_ndjson_report.specs.declared.task.ElementsTask.{ElementsTask}
 use Rattle.jx_ndjson_report.specs.inside.ElementTeller.{ElementTellerValue, HasTaken}
 use Rattle.jx_ndjson_report.proofs.ElementTakes.{element_takes_none, element_takes_one}
-use Rattle.jx_ndjson_report.proofs.element_teller.ElementTeller.take_step.Goals as goal
+use Rattle.jx_ndjson_report.proofs.element_teller.ElementTellerStepTaker.take_step.Goals as goal
 
 pub returns-in-None-clause-taken : goal.returns-in-None-clause-taken
 returns-in-None-clause-taken c = λ bytes given h.
