@@ -17,7 +17,7 @@ use Rattle.jx_cmd_index.proofs.saved_showing.show_saved.Goals as goal
 pub returns-in_err-write_saved-in-Ok-clause-beginning :
     goal.returns-in_err-write_saved-in-Ok-clause-beginning
 returns-in_err-write_saved-in-Ok-clause-beginning g c = λ is.
-    let p = err_from_is_err_and c.from_residual-in_err-write_saved-in-Ok.result c.from_residual-in_err-write_saved-in-Ok.ensures.1 in
+    let p = err_from_is_err_and c.from_residual.result c.from_residual.ensures.1 in
     record {
       output = spelt_saved c.in-Ok.saved;
       tells = [];
@@ -25,7 +25,7 @@ returns-in_err-write_saved-in-Ok-clause-beginning g c = λ is.
       answer = λ has_names settings chunk input comes.
           gives_index has_names settings chunk input c.in-Ok.saved (subst (λ (r : Result SavedText Refusal). ComesToSaved has_names settings chunk input r) c.in-Ok.is comes);
       wrote = c.write_saved.ensures.beginning
-          (same_fault c.write_saved.result c.from_residual-in_err-write_saved-in-Ok.result c.in_err-write_saved-in-Ok.field-0.0 p.0 fault.Write c.in_err-write_saved-in-Ok.was p.1 p.2 is);
+          (same_fault c.write_saved.result c.from_residual.result c.in_err-write_saved-in-Ok.field-0.0 p.0 fault.Write c.in_err-write_saved-in-Ok.was p.1 p.2 is);
     }
 
 pub returns-in_ok-write_saved-in-Ok-clause-ok : goal.returns-in_ok-write_saved-in-Ok-clause-ok
