@@ -81,7 +81,7 @@ the_nearest_right_word_is_told() {
     has 'quiet is not for each' "error: unexpected argument '-q' found" "$(said '' each -q)"
     has 'each takes two words' "error: unexpected argument 'b' found" "$(said '' each /a a b)"
     has 'quiet is not for part' "error: unexpected argument '-q' found" "$(said '' part -q)"
-    has 'workers are not for save' "error: unexpected argument '--workers' found" "$(said '' save --workers 2)"
+    has 'workers are not for join' "error: unexpected argument '--workers' found" "$(said '' join --workers 2)"
     has 'a wrong size of chunks' "error: invalid value for '--chunk <N>': N is no power of two" "$(said '' save --chunk 100)"
     has 'save takes one word' "error: unexpected argument 'b' found" "$(said '' save a b)"
     has 'an index needs the file of the text' '  --file <FILE>' "$(said '' at --index a.jxi /a)"
