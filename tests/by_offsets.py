@@ -1,5 +1,5 @@
 """by_offsets.py PROGRAM COMMAND: makes the texts, the sequences or the JSON Lines that lines on standard input name, and compares what `check`,
-`seq` or `lines` by several workers answers to them with what is known of each by how it was made, and with what one worker answers. Prints each
+`seq`, `lines` or `get --lines` by several workers answers to them with what is known of each by how it was made, and with what one worker answers. Prints each
 difference, and how many answers were right."""
 import pathlib
 import random
@@ -211,6 +211,10 @@ def json_lines(size, front, names, is_ended, options):
     return bytes(text), "".join(f"{line}\n" for line in [*told, f"accepted {good}, refused {bad}"]), int(bad > 0)
 
 
+# What `get --lines` is asked of the same files: values and none, messages, rows of texts, a header.
+VALUES = [["", "/a", "/a/1", "/0"], ["/a"], ["--format", "tsv", "/a/1", "/a"], ["--format", "csv", "--header", "/a/0", ""]]
+
+
 def compare_lines(program, room, line):
     """How many answers to the JSON Lines of a line are right, and which are wrong."""
     piece, size, front, names, end, options = (part.strip() for part in line.split("|"))
@@ -247,6 +251,17 @@ def compare_lines(program, room, line):
     look((whole[0], b"", b""), "--workers", "3", "-q")
     for more in ([],) if is_short else ([], ["--format", "gnu"], ["--format", "json"], ["-l"], ["-H"], ["--skip-blank"]):
         look(said("--workers", "1", *more), "--workers", "4", *more)
+    for words in VALUES[:1] if is_short else VALUES:
+        call = [program, "get", "--lines", *options.split(), *words, "--file", path]
+        one, *others = [
+            subprocess.run([*call, *pieces, "--workers", workers], stdin=subprocess.DEVNULL, capture_output=True)
+            for workers in (("1", "2") if is_short else ("1", "2", "3", "4", "8"))
+        ]
+        for other in others:
+            if (other.returncode, other.stdout, other.stderr) == (one.returncode, one.stdout, one.stderr):
+                right += 1
+            else:
+                wrong.append(f"{line}, get {words}: {len(other.stdout)} bytes for {len(one.stdout)}, {len(other.stderr)} for {len(one.stderr)}")
     # The end, cut at each of its last bytes: what one worker answers is what several do.
     text = path.read_bytes()
     for by in (3,) if is_short else range(1, 12):

@@ -1,5 +1,5 @@
 #!/usr/bin/env bash
-# `check FILE..`, `seq FILE..` and `lines FILE..` by several workers, which read a regular file at offsets, each for itself. Texts are made of
+# `check FILE..`, `seq FILE..`, `lines FILE..` and `get --lines` by several workers, which read a regular file at offsets, each for itself. Texts are made of
 # sizes around the borders between what workers read, and cut and damaged there: each answer is what the text was made for, and what one worker
 # answers. So it is of sequences and of JSON Lines, whose elements and lines lie across all borders.
 . "$(dirname "$0")/lib.sh"

@@ -47,13 +47,19 @@ COMMANDS = {
     "`lines` of a file by several workers": ({"jx_parallel_report/src/lines_report": ["report_lines_at"]}, without("Index At Seq")),
     "`lines --max`": ({"jx_ndjson_report/src/first_lines": ["report_first_lines"]}, without("Index At Seq")),
     "`lines --pass`": ({"jx_ndjson_report/src/passing": ["pass_lines"]}, without("Index At Seq")),
-    "`get --lines`": ({"jx_line_values/src/reporting": ["report_line_values"]}, without("Index At Seq")),
+    "`get --lines`": (
+        {"jx_line_values/src/reporting": ["report_line_values"], "jx_line_values/src/reporting_at": ["report_line_values_at"]},
+        without("Index At Seq"),
+    ),
     "`seq --live`": ({"jx_ndjson_report/src/reporting": ["report_sequence"]}, without("Index At Seq")),
     "`texts`": ({"jx_texts/src/reporting": ["report_texts"]}, without("Index At Seq")),
     "`at --index`": ({"jx_cmd_index/src/places_reporting": ["report_places"]}, without("Check Index Seq")),
     "`get --index`": ({"jx_cmd_index/src/values_reporting": ["report_values_by_index"]}, without("Check Index Seq")),
     "`split`": ({"jx_cmd_index/src/parts_reporting": ["report_parts"]}, without("Check Index Seq")),
-    "`save`": ({"jx_cmd_index/src/index_reporting": ["report_index"]}, without("Index At Seq")),
+    "`save`": (
+        {"jx_cmd_index/src/index_reporting": ["report_index"], "jx_cmd_index/src/index_at": ["report_index_at"]},
+        without("Index At Seq"),
+    ),
     "`explain`": (
         {
             "jx_explain/src/first_pass": ["exit_of_input"],
