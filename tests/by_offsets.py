@@ -211,10 +211,6 @@ def json_lines(size, front, names, is_ended, options):
     return bytes(text), "".join(f"{line}\n" for line in [*told, f"accepted {good}, refused {bad}"]), int(bad > 0)
 
 
-# What `get --lines` is asked of the same files: values and none, messages, rows of texts, a header.
-VALUES = [["", "/a", "/a/1", "/0"], ["/a"], ["--format", "tsv", "/a/1", "/a"], ["--format", "csv", "--header", "/a/0", ""]]
-
-
 def compare_lines(program, room, line):
     """How many answers to the JSON Lines of a line are right, and which are wrong."""
     piece, size, front, names, end, options = (part.strip() for part in line.split("|"))
@@ -251,20 +247,54 @@ def compare_lines(program, room, line):
     look((whole[0], b"", b""), "--workers", "3", "-q")
     for more in ([],) if is_short else ([], ["--format", "gnu"], ["--format", "json"], ["-l"], ["-H"], ["--skip-blank"]):
         look(said("--workers", "1", *more), "--workers", "4", *more)
-    for words in VALUES[:1] if is_short else VALUES:
-        call = [program, "get", "--lines", *options.split(), *words, "--file", path]
-        one, *others = [
-            subprocess.run([*call, *pieces, "--workers", workers], stdin=subprocess.DEVNULL, capture_output=True)
-            for workers in (("1", "2") if is_short else ("1", "2", "3", "4", "8"))
-        ]
-        for other in others:
-            if (other.returncode, other.stdout, other.stderr) == (one.returncode, one.stdout, one.stderr):
-                right += 1
-            else:
-                wrong.append(f"{line}, get {words}: {len(other.stdout)} bytes for {len(one.stdout)}, {len(other.stderr)} for {len(one.stderr)}")
     # The end, cut at each of its last bytes: what one worker answers is what several do.
     text = path.read_bytes()
     for by in (3,) if is_short else range(1, 12):
+        path.write_bytes(text[:-by])
+        look(said("--workers", "1"), "--workers", "4")
+    return right, wrong
+
+
+# Of these are lines of values: some lack a member or a text, are blank, refused or cut, or end with a carriage return.
+VALUES = [b"\n", b"1", b" ", b'"', b"[", b"\r\n", b'{"a":2}\n', b'{"a":[1, "\xc3\xa9"],"b":null}\n', b'{"b":"\\t\\u0041"}\n', b'{"a":"\\ud800"}\r\n']
+
+
+def compare_values(program, room, line):
+    """How many answers to pointers into the lines of a line are right, and which are wrong."""
+    piece, size, front, names, end, options = (part.strip() for part in line.split("|"))
+    path = room / "values"
+    pieces = [] if piece == "-" else ["--piece", piece]
+    right, wrong = 0, []
+
+    def said(*more):
+        words = [program, "get", "--lines", "/a", "", "--file", path, *options.split(), *more]
+        done = subprocess.run(words, stdin=subprocess.DEVNULL, capture_output=True)
+        return done.returncode, done.stdout, done.stderr
+
+    def look(wanted, *more):
+        nonlocal right
+        got = said(*pieces, *more)
+        if got == wanted:
+            right += 1
+        else:
+            at = next((at for at, (a, b) in enumerate(zip(got[1], wanted[1])) if a != b), min(len(got[1]), len(wanted[1])))
+            wrong.append(f"{line}, {more}: status {got[0]}, {len(got[1])} bytes for {len(wanted[1])}, another at {at}; {len(got[2])} of {len(wanted[2])}")
+
+    if names == "random":
+        many = random.Random(line)
+        text = b"".join(many.choices(VALUES, weights=[1, 1, 1, 1, 1, 1, 9, 9, 9, 1], k=int(size) // 12))
+        text = (FRONT_MARK if front == "mark" else b"") + text
+    else:
+        text, _, _ = json_lines(int(size), front == "mark", names.split(), end == "ended", options.split())
+    path.write_bytes(text)
+    whole = said("--workers", "1")
+    rows = text.count(b"\n") + (0 if text.endswith(b"\n") else 1) + options.count("--header")
+    if whole[1].count(b"\n") != rows:
+        wrong.append(f"{line}: {whole[1].count(10)} rows for {rows}")
+    for workers in ("2", "3", "8"):
+        look(whole, "--workers", workers)
+    # The end, cut at some of its last bytes.
+    for by in (1, 3, 7):
         path.write_bytes(text[:-by])
         look(said("--workers", "1"), "--workers", "4")
     return right, wrong
@@ -275,7 +305,7 @@ def main():
     room.mkdir(exist_ok=True)
     right, wrong = 0, []
     for line in sys.stdin.read().splitlines():
-        more, differences = {"check": compare, "seq": compare_sequences, "lines": compare_lines}[sys.argv[2]](sys.argv[1], room, line)
+        more, differences = {"check": compare, "seq": compare_sequences, "lines": compare_lines, "values": compare_values}[sys.argv[2]](sys.argv[1], room, line)
         right += more
         wrong += differences
     print(*wrong, sep="\n", end="\n" if wrong else "")

@@ -100,6 +100,31 @@ each_line_is_answered_as_it_was_made() {
     if [[ $told =~ ([0-9]+)\ right ]]; then passed=$((passed + BASH_REMATCH[1])); fi
 }
 
+# The same of the values of each line, of which some have none.
+line_values() {
+    cat <<'LINES'
+64 | 1048576 | - | object object object object object object object object bad | open |
+1000 | 1100000 | mark | long object number | open | --ignore-bom
+1000 | 1048576 | mark | random | - | --ignore-bom --format tsv
+4096 | 1100000 | - | object bad blank number cut | ended | --skip-blank
+4096 | 1100000 | - | random | - | --format csv --null -
+65536 | 1600000 | - | object | ended | --format tsv --header
+- | 3000000 | - | object object object object object object object object object bad | ended |
+- | 9000000 | - | long long object bad number | ended | --format csv --header
+- | 9000000 | - | huge bad huge huge object | open |
+- | 1500000 | mark | random | - |
+- | 20000000 | - | object | ended |
+8388608 | 20000000 | - | long object number object bad | ended |
+LINES
+}
+
+each_row_is_what_one_worker_writes() {
+    local told
+    told=$(line_values | python3 "$root/tests/by_offsets.py" "$program" values 2>&1)
+    has "$told" ' 0 wrong' " ${told##*, }"
+    if [[ $told =~ ([0-9]+)\ right ]]; then passed=$((passed + BASH_REMATCH[1])); fi
+}
+
 # A file without a separator, and one whose last bytes go.
 a_sequence_may_have_one_element_or_none() {
     local workers
@@ -188,4 +213,4 @@ what_is_no_regular_file_is_read_as_a_stream() {
 }
 
 make_files
-tests each_text_is_answered_as_it_was_made each_sequence_is_answered_as_it_was_made each_line_is_answered_as_it_was_made a_sequence_may_have_one_element_or_none each_call_is_answered_as_its_line_says what_is_no_regular_file_is_read_as_a_stream
+tests each_text_is_answered_as_it_was_made each_sequence_is_answered_as_it_was_made each_line_is_answered_as_it_was_made each_row_is_what_one_worker_writes a_sequence_may_have_one_element_or_none each_call_is_answered_as_its_line_says what_is_no_regular_file_is_read_as_a_stream

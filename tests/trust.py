@@ -81,6 +81,7 @@ COMMANDS = {
 FIRST = "`jx check`"
 # The parts that a part counts as read, beside the first one.
 BEYOND = {
+    "`seq`": ["`check` or `seq` of a file by several workers"],
     "`get`": ["`at`"],
     "`count`": ["`each`, `keys`"],
     "`lines` of a file by several workers": ["`lines`"],

@@ -22,7 +22,7 @@ use std::thread::Threads;
 ///
 /// Workers and the calling thread go on in rounds, as `report_by_rounds` does, by chunks as `step_of` says. A worker makes the rows
 /// of the lines between the first and the last line feed of a chunk. A line that has a message it keeps, and the calling thread
-/// reads such a line, since a message names the line's number. Of a chunk in which more than one line in 64 bytes has a message,
+/// reads such a line, since a message names the line's number. Of a chunk in which more than one line in a KiB has a message,
 /// or whose rows are much longer than its lines, nothing is kept: the calling thread reads it.
 ///
 /// The output of a round is written, and then the messages, and never taken back. The names of the settings are ignored.

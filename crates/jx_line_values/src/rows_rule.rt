@@ -12,7 +12,7 @@ use std::alloc::{AllocError, Global};
 use std::marker::Model;
 
 /// How many bytes a part has at least for each line with a message. A part that has more of these is not kept.
-const BYTES_FOR_A_TURN: usize = 64;
+const BYTES_FOR_A_TURN: usize = 1024;
 
 /// The task by which workers make rows, and its pointers made ready.
 #[derive(Drop)]
