@@ -18,7 +18,7 @@ use std::marker::Brand;
 use std::sync::Wait;
 use std::thread::Threads;
 
-/// The index of a text that workers read, or why it is none.
+/// The index of a text that workers read, or why the bytes are not a text.
 fn read_index<F: SharedAt + Sync, K: Asked + Send, R: Threads + Wait + Sync>(
     rt: &R,
     alloc: Global,

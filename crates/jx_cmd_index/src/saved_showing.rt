@@ -1,4 +1,4 @@
-// What was read of an input is shown: the bytes of its index are written, or its verdict is reported.
+// Shows what was read of an input: writes the bytes of its index, or reports its verdict.
 ghost use Rattle.std.specs.Prelude.{◌≡◌, ◌≢◌, ◌↔◌, true, false, IfOk, IfErr, IsErrOf, OnErr, OnOk};
 ghost use Rattle.std.specs.Io.KnownBytes.{Appends};
 ghost use Rattle.jx_ends.specs.Ends.{AppendsBeginning};
@@ -25,7 +25,7 @@ fn write_saved<W: Sink>(alloc: Global, writer: &mut W, saved: &SavedText) -> Res
     write_whole(writer, &bytes)
 }
 
-/// Writes the bytes of the index of a text, with its tables, or reports why an input is none. The bytes are made before the
+/// Writes the bytes of the index of a text, with its tables, or reports why an input is not a text. The bytes are made before the
 /// first one is written. Where reporting fails, the status is the same.
 pub(crate) fn show_saved<W: Sink, E: Sink>(
     alloc: Global,

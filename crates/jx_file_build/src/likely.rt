@@ -4,7 +4,7 @@ use jx_reduce::{Expect, Holder, Level, Reduced};
 use jx_run::OutcomeRun;
 use std::alloc::AllocError;
 
-/// What may stand next at the beginning of a chunk, the most frequent first.
+/// The expectations at the beginning of a chunk, the most frequent first.
 const EXPECTS: [Expect; 6] = [
     Expect::After,
     Expect::Name,

@@ -17,11 +17,11 @@ use std::marker::Model;
 /// How many bytes at the beginning of a chunk are kept.
 const HEAD: usize = 64;
 
-/// What is known of a chunk of a text that was read without the bytes before it. Its tokens are summed from a state that is likely;
-/// where the text leads to another, the chunk is of no use.
+/// A chunk of a text that was read without the bytes before it. Its tokens are summed from a likely state; where the text leads to
+/// another, the chunk is of no use.
 #[derive(Drop)]
 pub struct LoneChunk {
-    /// The outcome of its bytes, whatever stands before them.
+    /// The outcome of its bytes, whatever the bytes before are.
     run: OutcomeRun,
     /// Its first bytes: in which state they are read makes a difference at first.
     head: Vec<u8>,
@@ -59,7 +59,7 @@ fn state_at(exit: Option<LexExit>) -> Option<LexState>
     }
 }
 
-/// What reading the first bytes of a chunk from a state comes to; nothing where they are no tokens.
+/// The result of reading the first bytes of a chunk from a state; nothing where they are no tokens.
 fn read_head(state: LexState, head: &[u8]) -> Option<Head>
     ensures sum { IfSome result (λ read. Tells (lex state 0 head.now).marks (lex state 0 head.now).ends read.sum.sum read.sum.begins read.sum.ends) }
     ensures exit { IfSome result (λ read. (lex state 0 head.now).exit ≡ lexical.state read.state) }
@@ -92,7 +92,7 @@ fn are_same(one: LexState, other: LexState) -> bool
 }
 
 impl LoneChunk {
-    /// What is known of a chunk whose bytes from an offset on are read from a state.
+    /// A chunk whose bytes from an offset on are read from a state.
     fn behind(
         alloc: Global,
         run: OutcomeRun,

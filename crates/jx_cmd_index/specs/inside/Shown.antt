@@ -9,7 +9,7 @@ use Rattle.jx_ends.specs.Ends.{AppendsBeginning}
 use Rattle.jx_cmd_index.specs.SaveOutput.{IndexOutput}
 use Rattle.jx_cmd_index.specs.inside.Saving.{ComesToSaved}
 
--- for each input that comes to this, it is the whole output, and all that is reported
+-- for each input of which this was read, it is the whole output, and all that is reported
 abbrev pub IsShownFor : Result SavedText Refusal → List ℕ → List ℕ → Exit → Type 0
 IsShownFor read output tells exit =
     (has_names : Bool) (settings : Settings) (chunk : ℕ) (input : List ℕ) → ComesToSaved has_names settings chunk input read → IndexOutput has_names settings chunk input output tells exit

@@ -1,4 +1,4 @@
--- What the tokens of a chunk come to, and a reader that goes on by its bytes.
+-- The sums of the tokens of a chunk, and a reader that goes on by its bytes.
 use Rattle.std.specs.Prelude.{◌≡◌, ℕ, List, ◌++◌, Bool}
 use Rattle.jx_lex.specs.declared.alphabet.mark.Mark.{Mark}
 use Rattle.jx_run.specs.Reader.{HasRead, ReaderValue}

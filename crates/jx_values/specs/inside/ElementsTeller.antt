@@ -1,4 +1,4 @@
--- What a reporter on elements has taken, and what waits.
+-- A reporter on elements: the bytes that it has taken, and the lines that wait.
 use Rattle.std.specs.Prelude.{◌≡◌, ℕ, List, [], ◌++◌, Bool, true, if◌then◌else◌}
 use Rattle.jx_run.specs.declared.texts.settings.Settings.{Settings}
 use Rattle.jx_each.specs.declared.content.LineContent.{LineContent}

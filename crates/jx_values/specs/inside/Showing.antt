@@ -3,7 +3,7 @@ use Rattle.std.specs.Prelude.{◌≡◌, ℕ, List, ◌++◌, Bool, true, false}
 use Rattle.jx_values.specs.NameTexts.{Texts, no_texts, text_run}
 use Rattle.jx_values.specs.declared.showing.Showing.{Showing}
 
--- what was met in the lines, and the texts that wait
+-- the lines that were met, and the texts that wait
 abbrev pub texts_of : Showing → Texts
 texts_of showing = record { part = showing.part.items; lines = showing.ready.items; lone = showing.has_lone }
 
