@@ -83,11 +83,12 @@ FIRST = "`jx check`"
 BEYOND = {
     "`seq`": ["`check` or `seq` of a file by several workers"],
     "`get`": ["`at`"],
+    "`each`, `keys`": ["`get`"],
     "`count`": ["`each`, `keys`"],
     "`lines` of a file by several workers": ["`lines`"],
     "`lines --max`": ["`lines`"],
     "`lines --pass`": ["`lines`"],
-    "`get --lines`": ["`lines`", "`get`"],
+    "`get --lines`": ["`lines`", "`lines` of a file by several workers", "`get`"],
     "`seq --live`": ["`seq`"],
     "`at --index`": ["`at`", "`save`"],
     "`get --index`": ["`at --index`", "`get`"],
