@@ -74,7 +74,11 @@ jx.1 | With --lines one line is kept, and by several workers the rows of 64 chun
 jx.1 | With --lines one line is kept, and by several workers the rows of 64 chunks. | memory - 60000 | lines.120000000 | get --workers 4 --lines /n
 jx.1 | With 10000 pointers or more the whole input is | memory 19500 - | text.20000000 | at --pointers many
 jx.1 | The text is read to its end, and one element is kept in memory. | memory - 8000 | text.20000000 | each
-jx.1 | One thread reads. | threads 0 0 | text.20000000 | save
+jx.1 | Of a FILE of a MiB at least each worker reads chunks of 16384 bytes or more for itself. | threads 4 - | text.20000000 | save --workers 4
+jx.1 | Of a FILE of a MiB at least each worker reads chunks of 16384 bytes or more for itself. | threads 0 0 | text.1048575 | save --workers 4
+jx.1 | Of a FILE of a MiB at least each worker reads chunks of 16384 bytes or more for itself. | threads 0 0 | text.20000000 | save --workers 4 --chunk 8192
+jx.1 | One worker reads standard input and pipes, and with --names, --unique-names or --progress always. | threads 0 0 | text.20000000 | save --workers 4 --names
+jx.1 | One worker reads standard input and pipes, and with --names, --unique-names or --progress always. | threads 0 0 | cat text.20000000 | save --workers 4
 jx.1 | The text is read once, and not kept; its index is | memory - 8000 | text.20000000 | save
 jx.1 | Of a text some bytes around the place are kept in memory, and the open containers with their names. | memory - 8000 | text.7000000 | explain --workers 1
 jx.1 | Of a text some bytes around the place are kept in memory, and the open containers with their names. | memory - 8000 | cat text.20000000 | explain --workers 1
