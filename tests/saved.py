@@ -598,7 +598,8 @@ def shared(program, rows):
             answers = [(run.returncode, run.stdout, run.stderr) for run in runs]
             good = all(answer == answers[0] for answer in answers) and answers[0][0] in (0, 1) and (answers[0][0] == 0) == (len(answers[0][1]) > 0)
             if number == 0 and "--names" not in options:
-                good = good and answers[0][1] == index_by(data, options)
+                # (The row with a depth has a text that is deeper.)
+                good = good and answers[0][1] == (b"" if "--depth" in options else index_by(data, options))
             if not good:
                 print("%s: text %d: %s" % (row, number, [(status, len(out), told[:80]) for status, out, told in answers]))
             right, wrong = right + good, wrong + (not good)
