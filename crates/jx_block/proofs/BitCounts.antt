@@ -13,7 +13,7 @@ use Rattle.jx_lex.specs.declared.alphabet.mark.MarkKind.{MarkKind}
 use Rattle.jx_lex.specs.declared.alphabet.state.LexState.TheVariants.{Gap}
 use Rattle.jx_lex.specs.inside.Bits.{bit}
 use Rattle.jx_lex.specs.Classes.{class_at, all_classes, first_with}
-use Rattle.jx_lex.specs.Counts.{number_of, is_comma, is_string, is_scalar, opens, closes}
+use Rattle.jx_lex.specs.Counts.{number_of, is_comma, is_string, is_scalar, is_brace, opens, closes}
 use Rattle.jx_lex.specs.Lex.{with_mark}
 use Rattle.jx_lex.specs.Moves.{move, row}
 use Rattle.jx_lex.proofs.Bits.{bit-or}
@@ -60,6 +60,9 @@ begins-scalar = refl
 
 pub begins-opening : Begins opens (λ b. (b == 0x5b) || (b == 0x7b))
 begins-opening = refl
+
+pub begins-brace : Begins is_brace (λ b. (b == 0x7b) || (b == 0x7d))
+begins-brace = refl
 
 pub begins-closing : Begins closes (λ b. (b == 0x5d) || (b == 0x7d))
 begins-closing = refl

@@ -9,6 +9,7 @@ pub mod Counts
 pub mod Escapes
 pub mod Forward
 pub mod Going
+pub mod InArrays
 pub mod Inside
 pub mod Keeping
 pub mod Lanes

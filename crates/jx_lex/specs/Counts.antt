@@ -31,6 +31,12 @@ closes CloseArray = true
 closes CloseObject = true
 closes _ = false
 
+-- a bracket of an object
+abbrev pub is_brace : MarkKind → Bool
+is_brace OpenObject = true
+is_brace CloseObject = true
+is_brace _ = false
+
 -- how many of these token starts pass a test
 abbrev pub number_of : (MarkKind → Bool) → List Mark → ℕ
 number_of test marks = count_by (λ mark. test mark.kind) marks
@@ -81,6 +87,7 @@ pub record HasCounts (marks : List Mark) (ends : List ℕ) (counts : TokenCounts
   pub scalars : number_of is_scalar marks ≡ counts.scalars
   pub opening : number_of opens marks ≡ counts.opening
   pub closing : number_of closes marks ≡ counts.closing
+  pub braces : number_of is_brace marks ≡ counts.braces
   pub ended : length ends ≡ counts.strings + counts.scalars
   pub lowest : (levels_of marks).lowest ≡ counts.lowest
   pub lowest_commas : (levels_of marks).commas ≡ counts.lowest_commas

@@ -296,6 +296,30 @@ fn pass_on<K: TokenSink>(
     }
 }
 
+/// Reads the rest of a number, with a comma after it. There the sink may go on by itself where it wants counts: a list of
+/// numbers is read faster here than token by token.
+#[inline(always)]
+fn numbers<K: TokenSink>(
+    sink: &mut K,
+    state: &mut LexState,
+    text: &[u8],
+    from: usize,
+    to: usize,
+) -> Result<usize, AllocError>
+    requires bounds { (from ≤ to) × (to ≤ length text.now) }
+    requires turn { K.awaits sink.old (in_token state.old) }
+    ensures bounds { IfOk result (λ end. (from ≤ end) × (end ≤ to)) }
+    ensures read { IfOk result (λ end. GoesTo (K.has_seen sink.old) (K.has_seen sink.new) (lex state.old from (slice_range text.now from end)) state.new) }
+    ensures turn { OnOk result (K.awaits sink.new (in_token state.new)) }
+{
+    let end = number(sink, state, text, from, to)?;
+    if !sink.wants_counts() {
+        return Ok(end);
+    }
+    let behind = pass_on(sink, *state, text, end, to)?;
+    Ok(behind)
+}
+
 /// Reads on from the state to which this byte led, over the rest of a token or over white space. Gives their end, and
 /// sets the state after them. After a string, a comma or white space the sink may go on by itself.
 #[inline(always)]
@@ -331,7 +355,7 @@ fn read_rest<K: TokenSink>(
             Ok(behind)
         }
         LexState::Minus | LexState::Zero | LexState::Int => {
-            let end = number(sink, state, text, from, to)?;
+            let end = numbers(sink, state, text, from, to)?;
             Ok(end)
         }
         LexState::T | LexState::F | LexState::N => {

@@ -11,6 +11,8 @@ pub struct TokenCounts {
     pub opening: u32,
     /// Brackets that close one.
     pub closing: u32,
+    /// How many of all these brackets open or close an object.
+    pub braces: u32,
     /// How many containers they close at most, at any place, beyond those that they opened before it.
     pub lowest: u32,
     /// How many of the commas stand where so many are closed and none is open that they opened.

@@ -104,6 +104,7 @@ impl Watch for Nothing {
             scalars: 0,
             opening: 0,
             closing: 0,
+            braces: 0,
             lowest: 0,
             lowest_commas: 0,
             lowest_values: 0,

@@ -47,6 +47,11 @@ impl<K: TokenSink + Drop> TokenSink for Beside<K> {
     }
 
     #[inline(always)]
+    fn wants_counts(&self) -> bool {
+        self.other.sink.wants_counts()
+    }
+
+    #[inline(always)]
     fn pass(&mut self, text: &[u8], from: usize, to: usize) -> Result<usize, AllocError> {
         self.other.has_failed = false;
         let end = self.stack.pass_into(text, from, to, &mut self.other);

@@ -82,6 +82,11 @@ impl<K: TokenSink + Drop, E: Earlier> TokenSink for Past<K, E> {
     }
 
     #[inline(always)]
+    fn wants_counts(&self) -> bool {
+        self.other.sink.wants_counts()
+    }
+
+    #[inline(always)]
     fn pass(&mut self, text: &[u8], from: usize, to: usize) -> Result<usize, AllocError> {
         if self.stack.is_done() {
             return Ok(from);
