@@ -1,4 +1,4 @@
-"""Looks up lists of 1, 2, 16 and 17 pointers, and of one less than are looked up in an index, and of as many. Each list has the answers that
+"""Looks up lists of 1, 2, 8, 9, 16 and 17 pointers, and of one less than are looked up in an index, and of as many. Each list has the answers that
 stand in `pointers` beside this file, with unique names too. Then long pointers, a list of a million, and the memory of a look-up in what comes
 through a pipe. The last line is `N passed, M failed`."""
 import os
@@ -8,7 +8,7 @@ import subprocess
 
 HERE = pathlib.Path(__file__).resolve().parent
 PROGRAM = os.environ.get("JX_PROGRAM", HERE.parent / "crates" / "jx" / "out" / "jx")
-COUNTS = [1, 2, 16, 17]
+COUNTS = [1, 2, 8, 9, 16, 17]
 # From so many on, an index is made.
 MANY = 10000
 DEEP = 65535

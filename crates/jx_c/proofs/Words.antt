@@ -6,13 +6,13 @@ use Rattle.std.proofs.Math.Nat.{div-add-mod, add-mul, two-pow-succ}
 use Rattle.std.proofs.Math.Seq.{drop-append_seam}
 use Rattle.std.proofs.lemmas.Nat.{and_mask, mod-mul-add}
 use Rattle.std.proofs.lemmas.Nat.Bits.{ones_shr}
-use Rattle.std.proofs.lemmas.List.{reverse-append, length-append, length-reverse, length-take, take_more_set, take_more, take-set}
+use Rattle.std.proofs.lemmas.List.{reverse-append, length-append, length-reverse, length-take, take_more_set, take_more}
 use Rattle.jx_reduce.specs.Read.{top, without_top}
 use Rattle.jx_reduce.specs.Bits.{holder_of, in_word, in_words}
 use Rattle.jx_reduce.specs.Containers.{outer}
 use Rattle.jx_reduce.specs.declared.table.holder.Holder.{Holder}
 use Rattle.jx_reduce.specs.declared.table.holder.Holder.TheVariants.{Object}
-use Rattle.jx_c.specs.Containers.{holders}
+use Rattle.jx_c.specs.Containers.{full_count, holders, inner_count}
 
 -- ---- how many there are
 
@@ -25,15 +25,16 @@ length-in_words : (ws : List ℕ) → length (in_words ws) ≡ length ws * 64
 length-in_words [] = refl
 length-in_words (w ∷ ws) = omega (arith, length-append (in_word 64 w) (in_words ws), length-in_word 64 w, length-in_words ws)
 
-pub length-holders : (n b : ℕ) (ws : List ℕ) → n / 64 ≤ length ws → length (holders n b ws) ≡ n
-length-holders n b ws h =
+pub length-holders : (n b : ℕ) (ws : List ℕ) → n < 65536 → length ws ≡ 1024 → length (holders n b ws) ≡ n
+length-holders n b ws few all =
+    let full = take (full_count n) ws in
     omega (
       arith,
-      length-append (in_word (n % 64) b) (in_words (reverse (take (n / 64) ws))),
-      length-in_word (n % 64) b,
-      length-in_words (reverse (take (n / 64) ws)),
-      length-reverse (take (n / 64) ws),
-      length-take (n / 64) ws,
+      length-append (in_word (inner_count n) b) (in_words (reverse full)),
+      length-in_word (inner_count n) b,
+      length-in_words (reverse full),
+      length-reverse full,
+      length-take (full_count n) ws,
     )
 
 -- ---- the low bits of a word
@@ -106,80 +107,57 @@ word_more k b x r h l =
     let high : (b % 9223372036854775808 * 2 + x) / 2 ≡ b % 9223372036854775808 = omega arith in
     rw (add-one k, low, high) (ap (λ (s : List Holder). holder_of x ∷ (s ++ r)) (low_63 k b h))
 
--- the innermost container in the word that is not full
-pub within_top : (n b : ℕ) (ws : List ℕ) → (n % 64 ≡ 0 → ⊥) → top (holders n b ws) ≡ holder_of (b % 2)
-within_top n b ws h = word_top (n % 64) b _ (omega arith)
-
-pub within_less : (n b : ℕ) (ws : List ℕ) → (n % 64 ≡ 0 → ⊥) → holders (n - 1) (b / 2) ws ≡ without_top (holders n b ws)
-within_less n b ws h =
-    let low : (n - 1) % 64 ≡ n % 64 - 1 = omega arith in
-    let high : (n - 1) / 64 ≡ n / 64 = omega arith in
-    ap (λ (k : ℕ). in_word k (b / 2) ++ in_words (reverse (take ((n - 1) / 64) ws))) low
-    ∙ ap (λ (k : ℕ). in_word (n % 64 - 1) (b / 2) ++ in_words (reverse (take k ws))) high
-    ∙ word_less (n % 64) b _ (omega arith)
-
--- the innermost container in the last full word
-last_word : (n b : ℕ) (ws : List ℕ) → n % 64 ≡ 0 → 0 < n → n / 64 ≤ length ws
-    → holders n b ws ≡ in_word 64 (get_or ws (n / 64 - 1) 0) ++ in_words (reverse (take (n / 64 - 1) ws))
+-- one container alone in the innermost word
+word_one : (v x : ℕ) (r : List Holder) → v % 2 ≡ x → in_word 1 v ++ r ≡ holder_of x ∷ r
 unfolding in_word
-last_word n b ws none some within =
-    let i = n / 64 - 1 in
-    let at : n / 64 ≡ i + 1 = omega arith in
-    let low : i < length ws = omega arith in
-    ap (λ (k : ℕ). in_word k b ++ in_words (reverse (take (n / 64) ws))) none
-    ∙ ap (λ (k : ℕ). in_words (reverse (take k ws))) at
-    ∙ ap (λ (xs : List ℕ). in_words (reverse xs)) (take_more ws i 0 low)
-    ∙ ap in_words (reverse-append (take i ws) (get_or ws i 0 ∷ []))
+word_one v x r low = rw low refl
 
-pub last_top : (n b : ℕ) (ws : List ℕ) → n % 64 ≡ 0 → 0 < n → n / 64 ≤ length ws → top (holders n b ws) ≡ holder_of (get_or ws (n / 64 - 1) 0 % 2)
-last_top n b ws none some within = ap top (last_word n b ws none some within) ∙ word_top 64 (get_or ws (n / 64 - 1) 0) _ (omega arith)
+-- the words, by how many containers are in the innermost one, and how many others are full
+counted : (n k f b : ℕ) (ws : List ℕ) → inner_count n ≡ k → full_count n ≡ f → holders n b ws ≡ in_word k b ++ in_words (reverse (take f ws))
+counted n k f b ws inner full =
+    ap (λ (i : ℕ). in_word i b ++ in_words (reverse (take (full_count n) ws))) inner ∙ ap (λ (i : ℕ). in_word k b ++ in_words (reverse (take i ws))) full
 
-pub last_less : (n b : ℕ) (ws : List ℕ) → n % 64 ≡ 0 → 0 < n → n / 64 ≤ length ws
-    → holders (n - 1) (get_or ws (n / 64 - 1) 0 / 2) ws ≡ without_top (holders n b ws)
-last_less n b ws none some within =
-    let w = get_or ws (n / 64 - 1) 0 in
-    let low : (n - 1) % 64 ≡ 63 = omega arith in
-    let high : (n - 1) / 64 ≡ n / 64 - 1 = omega arith in
-    ap (λ (k : ℕ). in_word k (w / 2) ++ in_words (reverse (take ((n - 1) / 64) ws))) low
-    ∙ ap (λ (k : ℕ). in_word 63 (w / 2) ++ in_words (reverse (take k ws))) high
-    ∙ word_less 64 w _ (omega arith)
-    ∙ ap without_top (sym (last_word n b ws none some within))
+pub inner_top : (n b : ℕ) (ws : List ℕ) → 0 < n → top (holders n b ws) ≡ holder_of (b % 2)
+inner_top n b ws some = word_top (inner_count n) b _ (omega arith)
 
--- a container more
-more_within : (n b x : ℕ) (ws : List ℕ) (w : ℕ) → n % 64 < 63 → x < 2
-    → holders (n + 1) (b % 9223372036854775808 * 2 + x) (set ws (n / 64) w) ≡ holder_of x ∷ holders n b ws
-more_within n b x ws w h l =
-    let low : (n + 1) % 64 ≡ n % 64 + 1 = omega arith in
-    let high : (n + 1) / 64 ≡ n / 64 = omega arith in
+-- a container less, where others stay in the innermost word, or none is left
+pub less_within : (n b : ℕ) (ws : List ℕ) → 0 < n → (n % 64 ≡ 1 → ⊥) → holders (n - 1) (b / 2) ws ≡ without_top (holders n b ws)
+less_within n b ws some more =
+    counted (n - 1) (inner_count n - 1) (full_count n) (b / 2) ws (omega arith) (omega arith) ∙ word_less (inner_count n) b _ (omega arith)
+
+pub less_to_none : (n b c : ℕ) (ws : List ℕ) → n ≡ 1 → holders (n - 1) c ws ≡ without_top (holders n b ws)
+unfolding in_word
+less_to_none n b c ws e = rw e refl
+
+-- a container less, where the word around is the innermost one then
+pub less_over : (n b : ℕ) (ws : List ℕ) → (n ≡ 1 → ⊥) → n % 64 ≡ 1 → n < 65536 → length ws ≡ 1024 → holders (n - 1) (get_or ws (n / 64 - 1) 0) ws ≡ without_top (holders n b ws)
+unfolding in_word
+less_over n b ws more low few all =
+    let f = n / 64 - 1 in
+    let w = get_or ws f 0 in
+    counted (n - 1) 64 f w ws (omega arith) (omega arith)
+    ∙ sym (ap in_words (reverse-append (take f ws) (w ∷ [])))
+    ∙ sym (ap (λ (xs : List ℕ). in_words (reverse xs)) (take_more ws f 0 (omega arith)))
+    ∙ sym (ap without_top (counted n 1 (f + 1) b ws (omega arith) (omega arith)))
+
+-- a container more, where the innermost word is not full
+pub more_within : (n b x : ℕ) (ws : List ℕ) → inner_count n ≤ 63 → x < 2 → holders (n + 1) (b % 9223372036854775808 * 2 + x) ws ≡ holder_of x ∷ holders n b ws
+more_within n b x ws h l =
+    counted (n + 1) (inner_count n + 1) (full_count n) (b % 9223372036854775808 * 2 + x) ws (omega arith) (omega arith) ∙ word_more (inner_count n) b x _ h l
+
+-- a container more, where it is full
+pub more_over : (n b x : ℕ) (ws : List ℕ) → inner_count n ≡ 64 → n < 65536 → length ws ≡ 1024 → x < 2
+    → holders (n + 1) (b % 9223372036854775808 * 2 + x) (set ws (n / 64 - 1) b) ≡ holder_of x ∷ holders n b ws
+more_over n b x ws low few all l =
+    let f = n / 64 - 1 in
     let v = b % 9223372036854775808 * 2 + x in
-    ap (λ (k : ℕ). in_word k v ++ in_words (reverse (take ((n + 1) / 64) (set ws (n / 64) w)))) low
-    ∙ ap (λ (k : ℕ). in_word (n % 64 + 1) v ++ in_words (reverse (take k (set ws (n / 64) w)))) high
-    ∙ ap (λ (xs : List ℕ). in_word (n % 64 + 1) v ++ in_words (reverse xs)) (take-set ws (n / 64) w)
-    ∙ word_more (n % 64) b x _ (omega arith) l
+    counted (n + 1) 1 (f + 1) v (set ws f b) (omega arith) (omega arith)
+    ∙ ap (λ (xs : List ℕ). in_word 1 v ++ in_words (reverse xs)) (take_more_set ws f b (omega arith))
+    ∙ ap (λ (xs : List ℕ). in_word 1 v ++ in_words xs) (reverse-append (take f ws) (b ∷ []))
+    ∙ word_one v x _ (omega arith)
+    ∙ ap (λ (s : List Holder). holder_of x ∷ s) (sym (counted n 64 f b ws (omega arith) (omega arith)))
 
-more_over : (n b x : ℕ) (ws : List ℕ) (v : ℕ) → n % 64 ≡ 63 → x < 2 → n / 64 < length ws
-    → holders (n + 1) v (set ws (n / 64) (b % 9223372036854775808 * 2 + x)) ≡ holder_of x ∷ holders n b ws
-unfolding in_word
-more_over n b x ws v h l room =
-    let low : (n + 1) % 64 ≡ 0 = omega arith in
-    let high : (n + 1) / 64 ≡ n / 64 + 1 = omega arith in
-    let w = b % 9223372036854775808 * 2 + x in
-    ap (λ (k : ℕ). in_word k v ++ in_words (reverse (take ((n + 1) / 64) (set ws (n / 64) w)))) low
-    ∙ ap (λ (k : ℕ). in_words (reverse (take k (set ws (n / 64) w)))) high
-    ∙ ap (λ (xs : List ℕ). in_words (reverse xs)) (take_more_set ws (n / 64) w room)
-    ∙ ap in_words (reverse-append (take (n / 64) ws) (w ∷ []))
-    ∙ word_more 63 b x _ (omega arith) l
-    ∙ ap (λ (k : ℕ). holder_of x ∷ (in_word k b ++ in_words (reverse (take (n / 64) ws)))) (sym h)
-
-pub more : (n b x : ℕ) (ws : List ℕ) → x < 2 → n / 64 < length ws
-    → holders (n + 1) (b % 9223372036854775808 * 2 + x) (set ws (n / 64) (b % 9223372036854775808 * 2 + x)) ≡ holder_of x ∷ holders n b ws
-more n b x ws l room = by_room (63 - n % 64) refl
-  where
-    by_room : (j : ℕ) → 63 - n % 64 ≡ j → holders (n + 1) (b % 9223372036854775808 * 2 + x) (set ws (n / 64) (b % 9223372036854775808 * 2 + x)) ≡ holder_of x ∷ holders n b ws
-    by_room zero e = more_over n b x ws _ (omega arith) l room
-    by_room (suc j) e = more_within n b x ws _ (omega arith) l
-
--- ---- the word that is being filled
+-- ---- the innermost word
 
 pub masked : (k b : ℕ) → 0 < k → k ≤ 64 → bit_and b ((2 ^ 64 - 1) / 2 ^ (64 - k)) ≡ b % 2 ^ k
 masked k b some h =
@@ -189,22 +167,23 @@ masked k b some h =
 pub masked-lt : (k b : ℕ) → 0 < k → k ≤ 64 → bit_and b ((2 ^ 64 - 1) / 2 ^ (64 - k)) < 2 ^ k
 masked-lt k b some h = let p = positive k in omega (arith, masked k b some h)
 
-around : (n b : ℕ) (ws : List ℕ) → 0 < n % 64 → n / 64 ≤ length ws → outer (holders n b ws) ≡ in_words (reverse (take (n / 64) ws))
-around n b ws some within =
-    let count : (length (holders n b ws) - 1) % 64 + 1 ≡ length (in_word (n % 64) b) = omega (arith, length-holders n b ws within, length-in_word (n % 64) b) in
-    ap (λ (k : ℕ). drop k (holders n b ws)) count ∙ drop-append_seam (in_word (n % 64) b) (in_words (reverse (take (n / 64) ws)))
+some_around : (n b : ℕ) (ws : List ℕ) → 0 < n → n < 65536 → length ws ≡ 1024 → outer (holders n b ws) ≡ in_words (reverse (take (full_count n) ws))
+some_around n b ws some few all =
+    let count : (length (holders n b ws) - 1) % 64 + 1 ≡ length (in_word (inner_count n) b) = omega (arith, length-holders n b ws few all, length-in_word (inner_count n) b) in
+    ap (λ (k : ℕ). drop k (holders n b ws)) count ∙ drop-append_seam (in_word (inner_count n) b) (in_words (reverse (take (full_count n) ws)))
 
-pub inner_is : (n b w : ℕ) (ws : List ℕ) → 0 < n % 64 → n / 64 ≤ length ws → w ≡ b % 2 ^ (n % 64) → holders n b ws ≡ in_word (n % 64) w ++ outer (holders n b ws)
-inner_is n b w ws some within e =
-    let k = n % 64 in
+around : (n b : ℕ) (ws : List ℕ) → n < 65536 → length ws ≡ 1024 → outer (holders n b ws) ≡ in_words (reverse (take (full_count n) ws))
+unfolding in_word
+around zero b ws few all = refl
+around (suc n) b ws few all = some_around (suc n) b ws (omega arith) few all
+
+pub inner_is : (n b w : ℕ) (ws : List ℕ) → n < 65536 → length ws ≡ 1024 → w ≡ b % 2 ^ inner_count n → holders n b ws ≡ in_word (inner_count n) w ++ outer (holders n b ws)
+inner_is n b w ws few all e =
+    let k = inner_count n in
     let z : k + 0 ≡ k = omega arith in
     let low : in_word k w ≡ in_word k b = ap (in_word k) e ∙ ap (λ (m : ℕ). in_word k (b % 2 ^ m)) (sym z) ∙ low_bits k 0 b in
-    ap (λ (l : List Holder). l ++ in_words (reverse (take (n / 64) ws))) (sym low) ∙ ap (λ (r : List Holder). in_word k w ++ r) (sym (around n b ws some within))
+    ap (λ (l : List Holder). l ++ in_words (reverse (take (full_count n) ws))) (sym low) ∙ ap (λ (r : List Holder). in_word k w ++ r) (sym (around n b ws few all))
 
-pub inner_put : (n b m w : ℕ) (ws : List ℕ) → 0 < n % 64 → n / 64 ≤ length ws → m < 64 → holders (n - n % 64 + m) w ws ≡ in_word m w ++ outer (holders n b ws)
-inner_put n b m w ws some within low =
-    let c : (n - n % 64 + m) % 64 ≡ m = omega arith in
-    let d : (n - n % 64 + m) / 64 ≡ n / 64 = omega arith in
-    ap (λ (k : ℕ). in_word k w ++ in_words (reverse (take ((n - n % 64 + m) / 64) ws))) c
-    ∙ ap (λ (k : ℕ). in_word m w ++ in_words (reverse (take k ws))) d
-    ∙ ap (λ (r : List Holder). in_word m w ++ r) (sym (around n b ws some within))
+pub inner_put : (n b m w : ℕ) (ws : List ℕ) → n < 65536 → length ws ≡ 1024 → 0 < m → m ≤ 64 → holders (n - inner_count n + m) w ws ≡ in_word m w ++ outer (holders n b ws)
+inner_put n b m w ws few all some low =
+    counted (n - inner_count n + m) m (full_count n) w ws (omega arith) (omega arith) ∙ ap (λ (r : List Holder). in_word m w ++ r) (sym (around n b ws few all))

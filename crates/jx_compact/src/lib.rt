@@ -1,6 +1,7 @@
 //! The compact form of a JSON value: its tokens, one after another, each with the bytes that it has.
 #![tactic(auto)]
 
+mod alone;
 mod compacting;
 mod laws;
 mod place;

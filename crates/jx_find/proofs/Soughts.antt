@@ -263,6 +263,25 @@ token_tells edges kind at end name k token some = record {
   ready = λ trie ready. ready;
 }
 
+-- a name, where one comes next
+pub name_tells : (edges : List Edge) (kind : MarkKind) (at end : ℕ) (name : List ℕ) (k next : Seeker) → is_name_next kind (finding k.state) ≡ true
+    → (IsTrie edges → (text : List ℕ) (from to : ℕ) → slice_range text from to ≡ name → finding next.state ≡ sought text edges mark.String from to (finding k.state))
+    → (IsReady edges k → IsReady edges next) → Tells edges kind at end name k next
+name_tells edges mark.String at end name k next is noted ready = record {
+  noted = λ trie was text named. noted trie text at end (named is);
+  ready = λ trie was. ready was;
+}
+name_tells edges mark.OpenArray at end name k next is noted ready = absurd cc
+name_tells edges mark.OpenObject at end name k next is noted ready = absurd cc
+name_tells edges mark.CloseArray at end name k next is noted ready = absurd cc
+name_tells edges mark.CloseObject at end name k next is noted ready = absurd cc
+name_tells edges mark.Colon at end name k next is noted ready = absurd cc
+name_tells edges mark.Comma at end name k next is noted ready = absurd cc
+name_tells edges mark.Number at end name k next is noted ready = absurd cc
+name_tells edges mark.True at end name k next is noted ready = absurd cc
+name_tells edges mark.False at end name k next is noted ready = absurd cc
+name_tells edges mark.Null at end name k next is noted ready = absurd cc
+
 -- a mark where something is skipped
 pub skip_tells : (edges : List Edge) (kind : MarkKind) (at end : ℕ) (name : List ℕ) (k : Seeker) (more : ℕ) → 0 < k.state.skipped → more ≡ skip_over kind (k.state.skipped - 1)
     → Tells edges kind at end name k (record k { state = record k.state { skipped = more } })

@@ -40,6 +40,7 @@ impl Sought {
     }
 
     /// Holds what is held before the first byte, in the same memory. Only want of memory is refused.
+    #[inline(always)]
     pub fn again(&mut self, edges: &[Edge]) -> Result<(), AllocError>
         ensures held { OnOk result (IsTrie edges.now → IsHeld [] edges.now [] [] self.new.state self.new.next self.new.begun self.new.name.items) }
         ensures begun { OnOk result (self.new.begun ≡ None) }
@@ -53,6 +54,7 @@ impl Sought {
 
     /// The state after the end of a text, which ends at `last`: a token that has begun ends there. Fails only when out
     /// of memory.
+    #[inline(always)]
     pub fn ended(self, edges: &[Edge], starts: &[usize], last: usize) -> Result<Sought, AllocError>
         ensures { IfOk result (λ ended. (bytes : List ℕ) (marks : List Mark) (ends : List ℕ) → last ≡ length bytes
             → IsHeld bytes edges.now marks ends self.state self.next self.begun self.name.items

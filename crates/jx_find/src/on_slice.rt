@@ -10,7 +10,7 @@ ghost use Rattle.jx_find.specs.OnSlice.{HasSought};
 
 use crate::held::Sought;
 use crate::seek_counts::{may_count, place_behind, set_count, skipped_behind};
-use jx_index::{Edge, Seeker, has_end, held_name, moved, token_bytes};
+use jx_index::{Edge, Seeker, bytes_there, has_end, held_name, moved, token_bytes};
 use jx_lex::{Mark, MarkKind, TokenCounts, TokenSink};
 use std::alloc::AllocError;
 use std::marker::{Brand, PhantomData};
@@ -72,6 +72,7 @@ pub struct OnSlice<'a, 'p, B> {
 
 impl<'a, 'p, B: Before> OnSlice<'a, 'p, B> {
     /// The state at the slice's start, before any of its tokens.
+    #[inline(always)]
     pub fn new(
         slice: &'a [u8],
         base: usize,
@@ -113,6 +114,7 @@ impl<'a, 'p, B: Before> OnSlice<'a, 'p, B> {
     }
 
     /// The state after the slice. Fails only when out of memory.
+    #[inline(always)]
     pub fn into_held(self) -> Result<Sought, AllocError>
         ensures held { IfOk result (λ held. (marks : List Mark) (ends : List ℕ)
             → HasSought B.held B.slice B.edges marks ends self.entry.slice.now self.entry.base self.entry.edges.now self.entry.seeker self.entry.begun self.entry.name.items
@@ -212,11 +214,15 @@ impl<'a, 'p, B: Before> TokenSink for OnSlice<'a, 'p, B> {
         if self.seeker.state.skipped != 0 {
             return Ok(());
         }
+        // A name is compared by its bytes in the slice, and its place is not kept.
+        if self.seeker.is_name_next(mark.kind) {
+            let name = bytes_there(self.slice, mark.at, to)?;
+            self.seeker.name(self.edges, name);
+            return Ok(());
+        }
         let at = moved(self.base, mark.at)?;
         let end = moved(self.base, to)?;
-        let wanted = self.seeker.is_name_next(mark.kind);
-        let name = token_bytes(&mut self.name, self.slice, self.base, at, to, wanted)?;
-        self.seeker.tell(self.edges, mark.kind, at, end, name)?;
+        self.seeker.tell(self.edges, mark.kind, at, end, &[])?;
         Ok(())
     }
 }

@@ -22,6 +22,7 @@ use std::alloc::{AllocError, Global};
 use std::marker::Brand;
 
 /// Reads the bytes of a slice before `to` as a whole text, and seeks by its tokens. The call picks what is held.
+#[inline(always)]
 fn seek_within<B: Before>(
     alloc: Global,
     slice: &[u8],
@@ -57,6 +58,7 @@ fn seek_within<B: Before>(
 
 /// Reads the bytes of a slice before `to` as a whole text, and notes what is met at the nodes of a trie, from where
 /// nothing was met. Returns the refusal where they are no text.
+#[inline(always)]
 fn met_within(
     alloc: Global,
     slice: &[u8],
@@ -85,6 +87,7 @@ fn met_within(
 }
 
 /// Puts the answers to the pointers of a trie in place of what was found before, by what was met in a text by itself.
+#[inline(always)]
 fn find_by(
     alloc: Global,
     met: &[Met],
@@ -128,6 +131,7 @@ impl Findings {
     }
 
     /// Where nothing was met at the nodes of a trie, in the memory that there is.
+    #[inline(always)]
     fn fresh(&mut self, alloc: Global, edges: &[Edge]) -> Result<Sought, AllocError>
         ensures held { IfOk result (λ held. IsTrie edges.now → IsHeld [] edges.now [] [] held.state held.next held.begun held.name.items) }
         ensures begun { IfOk result (λ held. held.begun ≡ None) }

@@ -14,6 +14,7 @@ pub fn moved(base: usize, at: usize) -> Result<usize, AllocError>
 }
 
 /// The bytes from one offset to another.
+#[inline(always)]
 fn part(bytes: &[u8], from: usize, to: usize) -> Result<&[u8], AllocError>
     ensures part { IfOk result (λ part. part.now ≡ slice_range bytes.now from to) }
     ensures order { IfOk result (λ _. from ≤ to) }
@@ -24,6 +25,16 @@ fn part(bytes: &[u8], from: usize, to: usize) -> Result<&[u8], AllocError>
     } else {
         Err(AllocError)
     }
+}
+
+/// The bytes of a token that stands whole in a slice, from one of its offsets to another. They are those of the text,
+/// where the slice stands from `base` on.
+#[inline(always)]
+pub fn bytes_there(slice: &[u8], from: usize, to: usize) -> Result<&[u8], AllocError>
+    ensures { IfOk result (λ bytes. (before future : List ℕ) (base : ℕ) → base ≡ length before
+        → bytes.now ≡ slice_range ((before ++ slice.now) ++ future) (base + from) (base + to)) }
+{
+    part(slice, from, to)
 }
 
 /// The bytes of a token that begins at `from`, if they are wanted, up to its end at an offset of a slice that stands from `base`

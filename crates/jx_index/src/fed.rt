@@ -41,8 +41,9 @@ impl<'s> Seeker<'s> {
         }
     }
 
-    /// A name where one comes next, by its bytes, with the quotation marks.
-    fn name(&mut self, edges: &[Edge], name: &[u8])
+    /// Takes a name where one comes next, by its bytes, with the quotation marks.
+    #[inline(always)]
+    pub fn name(&mut self, edges: &[Edge], name: &[u8])
         requires { is_name_next String (finding self.old.state) ≡ true }
         ensures noted { IsTrie edges.now → (text : List ℕ) (at end : ℕ) → slice_range text at end ≡ name.now
             → finding self.new.state ≡ sought text edges.now String at end (finding self.old.state) }

@@ -48,6 +48,7 @@ pub(crate) fn one_more(number: usize) -> Result<usize, AllocError>
 }
 
 /// The values met before, and a value more.
+#[inline(always)]
 fn met_more(met: Met, found: Found) -> Met
     ensures { result ≡ met_more found met }
 {
@@ -75,6 +76,7 @@ fn met_ended(met: Met, end: usize) -> Met
 }
 
 /// A value is met where some tokens lead.
+#[inline(always)]
 fn meet(met: &mut Vec<Met>, level: usize, kind: Kind, span: Span)
     ensures { met.new.items ≡ meet kind span level met.old.items }
 {
@@ -95,6 +97,7 @@ fn shut(met: &mut Vec<Met>, level: usize, end: usize)
 }
 
 /// Counts one child more in the innermost open container, if there is one.
+#[inline(always)]
 fn count_child(opened: &mut Vec<Cursor>) -> Result<(), AllocError>
     ensures room { IfOk result (λ _. HasRoom (reverse opened.old.items)) }
     ensures counted { IfOk result (λ _. reverse opened.new.items ≡ counted (reverse opened.old.items)) }
@@ -123,6 +126,7 @@ impl State {
     }
 
     /// Begins another look-up in the memory of this one: nothing was met yet of so many tokens. Only want of memory is refused.
+    #[inline(always)]
     pub fn again(&mut self, tokens: usize) -> Result<(), AllocError>
         ensures { OnOk result (finding self.new ≡ nothing_met tokens) }
     {
@@ -136,6 +140,7 @@ impl State {
     }
 
     /// A value of one token, to which so many tokens lead, where they do.
+    #[inline(always)]
     pub(crate) fn leaf(
         &mut self,
         target: Option<usize>,
@@ -191,6 +196,7 @@ impl State {
     }
 
     /// How many tokens lead to the object whose member's name comes next, if one does.
+    #[inline(always)]
     pub(crate) fn naming(&self) -> Option<usize>
         ensures { result ≡ naming (reverse self.now.opened.items) self.now.name }
     {

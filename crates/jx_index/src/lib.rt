@@ -38,7 +38,7 @@ mod wanted;
 
 pub use builder::has_end;
 pub use children::Children;
-pub use cut_names::{held_name, moved, token_bytes};
+pub use cut_names::{bytes_there, held_name, moved, token_bytes};
 pub use fed::{answers_along, answers_of};
 pub use find_fault::FindFault;
 pub use finder::{Cursor, Found, Met, State};

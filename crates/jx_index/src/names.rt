@@ -37,6 +37,7 @@ pub fn compare(mut left: Units, mut right: Units) -> Ordering
 }
 
 /// The first `count` bytes, or all where there are no more.
+#[inline(always)]
 pub(crate) fn keep(bytes: &[u8], count: usize) -> &[u8]
     ensures { result.now ≡ take count bytes.now }
 {
@@ -48,6 +49,7 @@ pub(crate) fn keep(bytes: &[u8], count: usize) -> &[u8]
 }
 
 /// The bytes between the quotation marks of the string at a span.
+#[inline(always)]
 #[tactic(auto, unfolding(crate::specs::Units::units_at))]
 pub(crate) fn string_bytes<'a>(text: &'a [u8], span: Span) -> &'a [u8]
     ensures { chars_units InText 0 result.now ≡ units_at text.now span }
@@ -120,6 +122,7 @@ fn compare_rests(left: &[u8], one: Spelling, right: &[u8], other: Spelling) -> O
 }
 
 /// Two names or tokens, as they are written. Bytes decide as long as each of them stands for one unit.
+#[inline(never)]
 fn compare_whole(left: &[u8], one: Spelling, right: &[u8], other: Spelling) -> Ordering
     ensures { result ≡ slice_cmp nat_cmp (chars_units one 0 left.now) (chars_units other 0 right.now) }
 {

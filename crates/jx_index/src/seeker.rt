@@ -179,6 +179,7 @@ impl<'s> Seeker<'s> {
     }
 
     /// Takes one more token start, and its end where it has one. Fails only when out of memory.
+    #[inline(always)]
     pub(crate) fn mark(
         &mut self,
         text: &[u8],

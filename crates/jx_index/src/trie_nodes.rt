@@ -118,6 +118,7 @@ fn is_led(edges: &[Edge], at: usize, node: usize, bytes: &[u8], spelling: Spelli
 }
 
 /// The node to which some units lead from another whose edges all stand in a range: each of these is tried.
+#[inline(always)]
 fn child_among(
     edges: &[Edge],
     range: Span,
@@ -138,8 +139,9 @@ fn child_among(
 /// How many edges of a node are tried one after another.
 const FEW: usize = 8;
 
-/// The node to which some units lead from another.
-pub(crate) fn child(
+/// The node to which some units lead from another, in a trie of many edges.
+#[inline(never)]
+fn child_of_many(
     edges: &[Edge],
     starts: &[usize],
     node: usize,
@@ -156,7 +158,29 @@ pub(crate) fn child(
     child_by_order(edges, starts, node, bytes, spelling)
 }
 
+/// The node to which some units lead from another. Few edges are all tried, whatever node they lead from.
+#[inline(always)]
+pub(crate) fn child(
+    edges: &[Edge],
+    starts: &[usize],
+    node: usize,
+    bytes: &[u8],
+    spelling: Spelling,
+) -> Option<usize>
+    ensures { IsTrie edges.now → result ≡ child_at edges.now node (chars_units spelling 0 bytes.now) }
+{
+    if edges.len() <= FEW {
+        let all = Span {
+            start: 0,
+            end: edges.len(),
+        };
+        return child_among(edges, all, node, bytes, spelling);
+    }
+    child_of_many(edges, starts, node, bytes, spelling)
+}
+
 /// The node of the member of a node's object that has a name.
+#[inline(always)]
 pub(crate) fn member(
     text: &[u8],
     edges: &[Edge],

@@ -14,7 +14,7 @@ use Rattle.jx_reduce.specs.declared.table.holder.Holder.{Holder}
 use Rattle.jx_reduce.specs.KnownStack.{Known, IsFault, HasRead as StackHasRead}
 use Rattle.jx_reduce.specs.Read.{Reading, read as read_marks}
 use Rattle.jx_run.specs.declared.readers.progress.Progress.{Progress}
-use Rattle.jx_run.specs.declared.readers.progress.Progress.TheVariants.{Front, Going}
+use Rattle.jx_run.specs.declared.readers.progress.Progress.TheVariants.{Front, Going, Stopped, TooDeep, Failed}
 use Rattle.jx_run.specs.declared.texts.settings.Front.TheVariants as seen
 use Rattle.jx_run.specs.declared.texts.settings.FrontMark.{FrontMark}
 use Rattle.jx_run.specs.declared.texts.settings.FrontMark.TheVariants as on_mark
@@ -283,6 +283,16 @@ at_start settings start k is deep h =
           ∙ ap (λ (m : FrontMark). Some (read_by m settings.depth start [])) (sym is);
       of_use = (record { depth_is = deep; marks = []; read = h }, λ fault. subst IsFault h fault);
     }
+
+-- ---- the depth
+
+-- a stack that has read this far reads within the depth of the settings
+pub depth_within : (settings : Settings) (start : ℕ) (bytes : List ℕ) (p : Progress) (k : Known) → IsReadTo settings start bytes p k → k.depth ≡ settings.depth
+depth_within settings start bytes (Front n) k h = h.of_use.depth_is
+depth_within settings start bytes (Going s) k h = h.of_use.0.depth_is
+depth_within settings start bytes (Stopped at) k h = h.of_use.depth_is
+depth_within settings start bytes (TooDeep at) k h = h.of_use.depth_is
+depth_within settings start bytes Failed k h = let came = h.outcome in absurd (cc)
 
 -- ---- verdicts
 

@@ -1,14 +1,14 @@
 // The moves over token starts from the start of a text, in a struct of fixed size that C holds.
 //
 // Each of its fields may hold any number, since C may hand anything over: what they mean is said for all of them.
-ghost use Rattle.std.specs.Prelude.{◌≡◌, ◌-◌, ◌/◌, ◌%◌, ◌<◌, ◌↔◌, ◌++◌, ◌∷◌, [], List, IsTrue, length};
+ghost use Rattle.std.specs.Prelude.{◌≡◌, ◌+◌, ◌-◌, ◌*◌, ◌%◌, ◌<◌, ◌↔◌, ◌++◌, ◌∷◌, [], ℕ, List, IsTrue, length};
 ghost use Rattle.jx_lex.specs.declared.alphabet.mark.Mark.{Mark};
 ghost use Rattle.jx_reduce.specs.Bits.{holder_of};
 ghost use Rattle.jx_reduce.specs.KnownStack.{HasRead, IsFault};
 ghost use Rattle.jx_reduce.specs.Read.{changed, step, top, without_top};
 ghost use Rattle.jx_reduce.specs.Table.{added};
 ghost use Rattle.jx_reduce.specs.KnownStack.{HasSeen};
-ghost use Rattle.jx_c.specs.Containers.{holders};
+ghost use Rattle.jx_c.specs.Containers.{holders, inner_count};
 ghost use Rattle.jx_c.specs.Stack.{code_of, stage_in, holders_of, known_of};
 
 use jx_lex::{Mark, MarkKind, TokenSink};
@@ -34,11 +34,11 @@ pub enum Stage {
 }
 
 /// Where token starts lead from the start of a text (RFC 8259, sections 2 to 5). The open containers are bits, an array 0 and
-/// an object 1: 64 of them fill a word, and those that fill none yet are kept apart, the innermost lowest.
+/// an object 1: words of 64 of them, and the innermost word, which has one at least where any is open.
 #[repr(C)]
 #[derive(Drop)]
 pub struct JxStack {
-    /// The innermost containers.
+    /// The innermost containers, the innermost lowest.
     pub bits: u64,
     /// The offset of the fault.
     pub at: usize,
@@ -48,7 +48,7 @@ pub struct JxStack {
     pub depth: u16,
     /// How many containers are open.
     pub count: u16,
-    /// The full words, the outermost first.
+    /// The full words around the innermost one, the outermost first.
     pub words: [u64; 1024],
 }
 
@@ -133,7 +133,7 @@ impl JxStack {
         self.count = 0;
     }
 
-    /// The full words, and the word that follows them.
+    /// The full words, and those behind them.
     #[inline(always)]
     fn words(&self) -> &[u64]
         ensures same { result.now ≡ self.now.words }
@@ -152,19 +152,16 @@ impl JxStack {
         self.count as usize
     }
 
-    /// The word in which the innermost container stands lowest.
+    /// How many containers the innermost word has.
     #[inline(always)]
-    fn inner_word(&self) -> u64
-        requires { 0 < self.now.count }
-        ensures innermost { top (holders_of self.now) ≡ holder_of (result % 2) }
-        ensures rest { holders (self.now.count - 1) (result / 2) self.now.words ≡ without_top (holders_of self.now) }
+    fn inner_count(&self) -> u16
+        ensures value { result ≡ inner_count self.now.count }
+        ensures few { self.now.count < 65536 }
     {
-        let words = self.words();
-        if self.count % 64 == 0 {
-            words[(self.count / 64 - 1) as usize]
-        } else {
-            self.bits
+        if self.count == 0 {
+            return 0;
         }
+        (self.count - 1) % 64 + 1
     }
 
     /// The innermost container.
@@ -173,16 +170,30 @@ impl JxStack {
         ensures { result ≡ top (holders_of self.now) }
     {
         if self.count == 0 {
-            return Holder::Bottom;
-        }
-        if self.inner_word() % 2 == 0 {
+            Holder::Bottom
+        } else if self.bits % 2 == 0 {
             Holder::Array
         } else {
             Holder::Object
         }
     }
 
-    /// Opens a container. The word that is being filled is written to its place among the full ones each time.
+    /// Puts the innermost word among the full ones, where it is full: so one container more has its place in a word.
+    #[inline(always)]
+    fn keep_full_word(&mut self)
+        requires { self.old.count < 65535 }
+        ensures depth { self.new.depth ≡ self.old.depth }
+        ensures count { self.new.count ≡ self.old.count }
+        ensures bits { self.new.bits ≡ self.old.bits }
+        ensures more { (x : ℕ) → x < 2 → holders (self.old.count + 1) (self.old.bits % HALF * 2 + x) self.new.words ≡ holder_of x ∷ holders_of self.old }
+    {
+        let _ = self.words();
+        if self.inner_count() == 64 {
+            self.words[(self.count / 64 - 1) as usize] = self.bits;
+        }
+    }
+
+    /// Opens a container.
     #[inline(always)]
     fn open(&mut self, holder: Holder)
         requires holder { holder ≡ Holder.Bottom → ⊥ }
@@ -190,11 +201,25 @@ impl JxStack {
         ensures depth { self.new.depth ≡ self.old.depth }
         ensures holders { holders_of self.new ≡ holder ∷ holders_of self.old }
     {
-        let _ = self.words();
-        let bits = self.bits % HALF * 2 + bit_of(holder);
-        self.words[(self.count / 64) as usize] = bits;
-        self.bits = bits;
+        self.keep_full_word();
+        self.bits = self.bits % HALF * 2 + bit_of(holder);
         self.count += 1;
+    }
+
+    /// The innermost word once the innermost container is closed: the one around it where no other container is in it.
+    #[inline(always)]
+    fn bits_less(&self) -> u64
+        requires { 0 < self.now.count }
+        ensures { holders (self.now.count - 1) result self.now.words ≡ without_top (holders_of self.now) }
+    {
+        let words = self.words();
+        if self.count % 64 != 1 {
+            self.bits / 2
+        } else if self.count == 1 {
+            0
+        } else {
+            words[(self.count / 64 - 1) as usize]
+        }
     }
 
     /// Closes the innermost container, if there is one.
@@ -204,7 +229,7 @@ impl JxStack {
         ensures holders { holders_of self.new ≡ without_top (holders_of self.old) }
     {
         if self.count > 0 {
-            self.bits = self.inner_word() / 2;
+            self.bits = self.bits_less();
             self.count -= 1;
         }
     }
@@ -270,8 +295,7 @@ impl JxStack {
     }
 }
 
-// The words stand in the struct, so nothing is allocated: `push` fails only where `count` is at its greatest number. The innermost
-// word is given where it is neither empty nor full.
+// The words stand in the struct, so nothing is allocated: `push` fails only where `count` is at its greatest number.
 impl Containers for JxStack {
     ghost list = { λ stack. holders_of stack };
 
@@ -302,25 +326,25 @@ impl Containers for JxStack {
     #[inline(always)]
     fn inner(&self) -> Option<Innermost> {
         let _ = self.words();
-        let used = self.count % 64;
-        if used == 0 {
+        let count = self.inner_count();
+        if count == 0 {
             return None;
         }
         Some(Innermost {
-            bits: self.bits & (u64::MAX >> (64 - used)),
-            count: used as usize,
+            bits: self.bits & (u64::MAX >> (64 - count)),
+            count: count as usize,
         })
     }
 
     #[inline(always)]
     fn put_inner(&mut self, inner: Innermost) -> bool {
         let _ = self.words();
-        let used = self.count % 64;
-        if used == 0 || inner.count >= 64 {
+        let around = self.count - self.inner_count();
+        if inner.count > (u16::MAX - around) as usize {
             return false;
         }
         self.bits = inner.bits;
-        self.count = self.count - used + inner.count as u16;
+        self.count = around + inner.count as u16;
         true
     }
 }

@@ -1,31 +1,32 @@
 // Elements of a JSON text sequence that stand between two record separators, of which verdicts alone are kept.
-ghost use Rattle.std.specs.Prelude.{◌≡◌, ◌<◌, ◌≤◌, ◌+◌, ◌-◌, ◌^◌, ℕ, List, length, map, slice_range, IfOk};
+ghost use Rattle.std.specs.Prelude.{◌≡◌, ◌<◌, ◌≤◌, ◌+◌, ◌-◌, ◌^◌, ℕ, List, length, map, slice_range, IfOk, OnOk};
 ghost use Rattle.std.specs.List.{AllZip};
 ghost use Rattle.jx_run.specs.Elements.{Part, filled, part};
 ghost use Rattle.jx_run.specs.ElementsRun.{IsPartRun};
 ghost use Rattle.jx_run.specs.inside.MarkedElements.{AreMarked};
 ghost use Rattle.jx_run.specs.inside.Moved.{moved};
 ghost use Rattle.jx_run.specs.ElementVerdict.{IsJudgedElement};
-ghost use Rattle.jx_run.specs.declared.texts.settings.FrontMark.TheVariants.{Refused};
 
 use crate::laws::verdicts_with_a_refused_mark;
-use crate::readers::reader::Reader;
+use crate::readers::progress::{progress_at_start, read_beginning, verdict_at};
 use crate::runs::part_run::PartRun;
 use crate::runs::parted::Marked;
 use crate::runs::piece::Piece;
 use crate::sequences::element_verdict::{JudgedElement, all_moved};
 use crate::sequences::open_end::{ends_open, told};
 use crate::sequences::separators::next_separator;
-use crate::texts::settings::Settings;
+use crate::texts::settings::FrontMark;
 use jx_lex::{Depth, Span};
+use jx_reduce::KnownStack;
 use jx_summary::Summary;
 use std::alloc::{AllocError, Global};
 
 /// The verdict on an element after a record separator: the bytes of a text between two places, the first of which has
-/// the offset `start`. The reader begins anew, and takes what follows as room, so that it takes the last tokens as fast
+/// the offset `start`. The stack begins anew, and takes what follows as room, so that it takes the last tokens as fast
 /// as the others.
+#[inline(always)]
 pub(crate) fn read_element(
-    reader: &mut Reader,
+    stack: &mut KnownStack,
     text: &[u8],
     from: usize,
     to: usize,
@@ -35,17 +36,17 @@ pub(crate) fn read_element(
     requires within { to ≤ length text.now }
     requires marked { 0 < start }
     requires fits { start + (to - from) < 2 ^ 64 }
-    requires plain { reader.old.settings.mark ≡ Refused }
-    ensures settings { reader.new.settings ≡ reader.old.settings }
-    ensures judged { IfOk result (IsJudgedElement reader.old.settings.depth (part start (slice_range text.now from to))) }
+    ensures depth { OnOk result (stack.new.depth ≡ stack.old.depth) }
+    ensures judged { IfOk result (IsJudgedElement stack.old.depth (part start (slice_range text.now from to))) }
 {
     verdicts_with_a_refused_mark();
-    reader.reset(start);
-    reader.feed_beginning(&text[from..], to - from)?;
+    stack.reset();
+    let begun = progress_at_start(FrontMark::Refused);
+    let came = read_beginning(stack, begun, &text[from..], to - from, start)?;
     let end = start + (to - from);
     Ok(JudgedElement {
         span: Span { start, end },
-        verdict: told(reader.verdict(), ends_open(&text[from..to])),
+        verdict: told(verdict_at(came, stack.whole()), ends_open(&text[from..to])),
     })
 }
 
@@ -60,7 +61,7 @@ impl Piece for PartRun {
         self.judged_with(right)
     }
 
-    // One reader serves every element.
+    // One stack serves every element.
     fn behind(
         alloc: Global,
         text: &[u8],
@@ -68,12 +69,12 @@ impl Piece for PartRun {
         end: usize,
         depth: Depth,
     ) -> Result<(Vec<JudgedElement>, Self), AllocError> {
-        let mut reader = Reader::new(alloc, &Settings::from(depth), start);
+        let mut stack = KnownStack::new(alloc, depth);
         let mut done = Vec::new(alloc);
         let mut from = start;
         while let Some(at) = next_separator(text, from, end) {
             if from < at {
-                done.push(read_element(&mut reader, text, from, at, from)?)?;
+                done.push(read_element(&mut stack, text, from, at, from)?)?;
             }
             from = at + 1;
         }

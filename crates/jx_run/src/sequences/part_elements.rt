@@ -5,16 +5,15 @@ ghost use Rattle.jx_run.specs.Elements.{elements};
 ghost use Rattle.jx_run.specs.ElementVerdict.{IsJudgedElement};
 ghost use Rattle.jx_run.specs.SequenceRead.{StartsWithSeparator};
 
-use crate::readers::reader::Reader;
 use crate::sequences::element_verdict::JudgedElement;
 use crate::sequences::marked_elements::read_element;
 use crate::sequences::separators::next_separator;
-use crate::texts::settings::Settings;
 use jx_lex::Depth;
+use jx_reduce::KnownStack;
 use std::alloc::{AllocError, Global};
 
 /// Judges the elements of a part of a text sequence, which begins with a record separator and is after so many bytes.
-/// One reader reads them, each at its offset in the whole sequence. The last one ends with the part.
+/// One stack reads them, each at its offset in the whole sequence. The last one ends with the part.
 pub fn elements_of_part(
     alloc: Global,
     part: &[u8],
@@ -29,17 +28,17 @@ pub fn elements_of_part(
     if part.is_empty() {
         return Ok(judged);
     }
-    let mut reader = Reader::new(alloc, &Settings::from(depth), before);
+    let mut stack = KnownStack::new(alloc, depth);
     // After the separator in front.
     let mut from = 1;
     while let Some(at) = next_separator(part, from, part.len()) {
         if from < at {
-            judged.push(read_element(&mut reader, part, from, at, before + from)?)?;
+            judged.push(read_element(&mut stack, part, from, at, before + from)?)?;
         }
         from = at + 1;
     }
     if from < part.len() {
-        judged.push(read_element(&mut reader, part, from, part.len(), before + from)?)?;
+        judged.push(read_element(&mut stack, part, from, part.len(), before + from)?)?;
     }
     Ok(judged)
 }

@@ -1,10 +1,9 @@
 use Rattle.std.proofs.Common.{◌≡◌, ◌+◌, ◌-◌, ◌<◌, ◌≤◌, [], length, ap, subst, ◌∙◌, append-nil, arith}
 use Rattle.std.specs.Prelude.{slice_range}
 use Rattle.std.specs.List.{AllZip}
-use Rattle.jx_run.specs.Reader.{ReaderValue}
+use Rattle.jx_reduce.specs.KnownStack.{Known}
 use Rattle.jx_run.specs.ElementVerdict.{IsJudgedElement}
 use Rattle.jx_run.specs.Elements.{part}
-use Rattle.jx_run.specs.declared.texts.settings.Settings.{Settings}
 use Rattle.std.proofs.lemmas.List.Edits.{length-between}
 use Rattle.jx_run.specs.Elements.{filled}
 use Rattle.jx_run.proofs.PlacedElements.{IsPlaced, placed_elements, read_last}
@@ -27,13 +26,8 @@ loop-at-preserved c =
       within = omega arith;
       depth =
           elim c.if-from-at.branch [
-            | then-from-at+in_ok-read_element+in_ok-push w ↦ ap (λ (r : ReaderValue). r.settings.depth) w.reader-is ∙ ap (λ (s : Settings). s.depth) w.in_ok-read_element.ensures.settings ∙ l.invariant.depth
-            | else-from-at w ↦ ap (λ (r : ReaderValue). r.settings.depth) w.reader-is ∙ l.invariant.depth
-          ];
-      plain =
-          elim c.if-from-at.branch [
-            | then-from-at+in_ok-read_element+in_ok-push w ↦ ap (λ (r : ReaderValue). r.settings.mark) w.reader-is ∙ ap (λ (s : Settings). s.mark) w.in_ok-read_element.ensures.settings ∙ l.invariant.plain
-            | else-from-at w ↦ ap (λ (r : ReaderValue). r.settings.mark) w.reader-is ∙ l.invariant.plain
+            | then-from-at+in_ok-read_element+in_ok-push w ↦ ap (λ (k : Known). k.depth) w.stack-is ∙ w.in_ok-read_element.ensures.depth ∙ l.invariant.depth
+            | else-from-at w ↦ ap (λ (k : Known). k.depth) w.stack-is ∙ l.invariant.depth
           ];
       read =
           elim c.if-from-at.branch [

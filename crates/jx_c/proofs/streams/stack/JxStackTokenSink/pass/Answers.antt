@@ -1,4 +1,4 @@
-use Rattle.std.proofs.Common.{◌≡◌, ◌++◌, ◌∷◌, ℕ, List, ap, arith, refl}
+use Rattle.std.proofs.Common.{◌≡◌, ◌++◌, ℕ, List, ap, arith, refl}
 use Rattle.std.specs.Prelude.{slice_range}
 use Rattle.jx_lex.specs.declared.alphabet.state.LexState.TheVariants.{Gap}
 use Rattle.jx_lex.specs.Lex.{lex}

@@ -1,11 +1,10 @@
 use Rattle.std.proofs.Common.{◌<◌, ◌≤◌, length, ap, subst, ◌∙◌, arith}
 use Rattle.std.specs.Prelude.{slice_range}
-use Rattle.jx_run.specs.Reader.{ReaderValue}
+use Rattle.jx_reduce.specs.KnownStack.{Known}
 use Rattle.jx_summary.specs.declared.span.Span.{Span}
 use Rattle.jx_run.specs.ElementsRun.{judging}
 use Rattle.jx_run.specs.ElementVerdict.{IsJudgedElement}
 use Rattle.jx_run.specs.Elements.{part}
-use Rattle.jx_run.specs.declared.texts.settings.Settings.{Settings}
 use Rattle.jx_run.proofs.SeqReading.{read_one, read_none, read_all}
 use Rattle.jx_run.proofs.sequences.marked_elements.PartRunPiece.behind.Goals.{then-from-at+in_ok-read_element+in_ok-push, else-from-at}
 use Rattle.jx_run.proofs.sequences.marked_elements.PartRunPiece.behind.Goals as goal
@@ -22,13 +21,8 @@ loop-at-preserved c =
       within = omega arith;
       depth =
           elim c.if-from-at.branch [
-            | then-from-at+in_ok-read_element+in_ok-push w ↦ ap (λ (r : ReaderValue). r.settings.depth) w.reader-is ∙ ap (λ (s : Settings). s.depth) w.in_ok-read_element.ensures.settings ∙ l.invariant.depth
-            | else-from-at w ↦ ap (λ (r : ReaderValue). r.settings.depth) w.reader-is ∙ l.invariant.depth
-          ];
-      plain =
-          elim c.if-from-at.branch [
-            | then-from-at+in_ok-read_element+in_ok-push w ↦ ap (λ (r : ReaderValue). r.settings.mark) w.reader-is ∙ ap (λ (s : Settings). s.mark) w.in_ok-read_element.ensures.settings ∙ l.invariant.plain
-            | else-from-at w ↦ ap (λ (r : ReaderValue). r.settings.mark) w.reader-is ∙ l.invariant.plain
+            | then-from-at+in_ok-read_element+in_ok-push w ↦ ap (λ (k : Known). k.depth) w.stack-is ∙ w.in_ok-read_element.ensures.depth ∙ l.invariant.depth
+            | else-from-at w ↦ ap (λ (k : Known). k.depth) w.stack-is ∙ l.invariant.depth
           ];
       read =
           elim c.if-from-at.branch [

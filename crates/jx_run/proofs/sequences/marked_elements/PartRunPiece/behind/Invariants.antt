@@ -1,6 +1,5 @@
 use Rattle.std.proofs.Common.{◌≡◌, ◌<◌, ◌≤◌, ◌-◌}
 use Rattle.jx_run.specs.ElementVerdict.{IsJudgedElement}
-use Rattle.jx_run.specs.declared.texts.settings.FrontMark.TheVariants.{Refused}
 use Rattle.jx_run.proofs.SeqReading.{IsReadTo, rest_at}
 use Rattle.jx_run.proofs.sequences.marked_elements.PartRunPiece.behind.Given as goal
 
@@ -8,8 +7,7 @@ abbrev pub invariant-loop-at : goal.invariant-loop-at
 invariant-loop-at l = record {
   marked : 0 < l.from;
   within : l.from ≤ l.end;
-  depth : l.reader.settings.depth ≡ l.depth;
-  plain : l.reader.settings.mark ≡ Refused;
+  depth : l.stack.depth ≡ l.depth;
   read : IsReadTo (IsJudgedElement l.depth) (rest_at l.text l.fn.start l.end) (rest_at l.text l.from l.end) l.done.items;
 }
 

@@ -2,7 +2,7 @@
 use Rattle.std.proofs.Common.{◌≡◌, ◌+◌, ◌≤◌, ◌++◌, length, drop, vec_len}
 use Rattle.std.specs.Prelude.{vec_capacity}
 use Rattle.jx_compact.specs.Compact.{compact_from, place_behind}
-use Rattle.jx_compact.proofs.compacting.compact_onto.Given as goal
+use Rattle.jx_compact.proofs.compacting.compact_each.Given as goal
 
 abbrev pub invariant-loop-byte : goal.invariant-loop-byte
 invariant-loop-byte l = record {

@@ -3,7 +3,7 @@ use Rattle.std.proofs.Math.Seq.{drop-cons}
 use Rattle.jx_compact.specs.declared.place.Place.{Place}
 use Rattle.jx_compact.specs.Compact.{compact_from, kept, next, place_behind}
 use Rattle.jx_compact.proofs.Compacts.{one_more}
-use Rattle.jx_compact.proofs.compacting.compact_onto.Goals as goal
+use Rattle.jx_compact.proofs.compacting.compact_each.Goals as goal
 
 pub loop-byte-preserved : goal.loop-byte-preserved
 loop-byte-preserved c =
