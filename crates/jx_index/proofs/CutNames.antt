@@ -5,7 +5,7 @@ use Rattle.std.proofs.lemmas.List.{length-drop, length-map, map-append, take_all
 use Rattle.jx_lex.specs.declared.alphabet.mark.Mark.{Mark}
 use Rattle.jx_lex.specs.declared.alphabet.mark.MarkKind.{MarkKind}
 use Rattle.jx_lex.specs.declared.scanner.counts.TokenCounts.{TokenCounts}
-use Rattle.jx_lex.specs.Counts.{HasCounts, Levels, at_start, number_of, is_comma, is_string, is_scalar, on_level, opens, closes}
+use Rattle.jx_lex.specs.Counts.{HasCounts, Levels, at_start, number_of, is_brace, is_comma, is_string, is_scalar, on_level, opens, closes}
 use Rattle.jx_lex.specs.Seen.{has_end}
 use Rattle.jx_lex.proofs.Counts.{number_of-more, number_of-has_end}
 use Rattle.jx_lex.proofs.Levels.{levels_from}
@@ -47,6 +47,7 @@ moved_counts base ms es counts h = record {
   scalars = number_of-moved is_scalar base ms ∙ h.scalars;
   opening = number_of-moved opens base ms ∙ h.opening;
   closing = number_of-moved closes base ms ∙ h.closing;
+  braces = number_of-moved is_brace base ms ∙ h.braces;
   ended = length-map es (λ (end : ℕ). base + end) ∙ h.ended;
   lowest = ap (λ (l : Levels). l.lowest) (levels-moved base at_start ms) ∙ h.lowest;
   lowest_commas = ap (λ (l : Levels). l.commas) (levels-moved base at_start ms) ∙ h.lowest_commas;
