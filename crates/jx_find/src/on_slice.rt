@@ -225,4 +225,11 @@ impl<'a, 'p, B: Before> TokenSink for OnSlice<'a, 'p, B> {
         self.seeker.tell(self.edges, mark.kind, at, end, &[])?;
         Ok(())
     }
+
+    // Defined here, so that it is code in the loop over whole tokens and no call.
+    #[inline(always)]
+    fn named(&mut self, mark: Mark, to: usize) -> Result<(), AllocError> {
+        self.token(mark, to)?;
+        Ok(())
+    }
 }
