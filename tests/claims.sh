@@ -8,13 +8,14 @@
 # input is a text, lines or elements of so many bytes; behind `cat` it comes through a pipe.
 claims() {
     cat <<'LINES'
-README.md | Use N workers, auto or 1 to 64. Default: auto, of `each`, `keys` and `count` 1. | threads auto auto | text.20000000 | check
-README.md | Use N workers, auto or 1 to 64. Default: auto, of `each`, `keys` and `count` 1. | threads auto - | text.20000000 | explain
-README.md | Use N workers, auto or 1 to 64. Default: auto, of `each`, `keys` and `count` 1. | threads auto - | text.1200000 | at --pointers many
-README.md | Use N workers, auto or 1 to 64. Default: auto, of `each`, `keys` and `count` 1. | threads auto - | text.1200000 | get --pointers many
-README.md | Use N workers, auto or 1 to 64. Default: auto, of `each`, `keys` and `count` 1. | threads auto - | seq.20000000 | seq -q
-README.md | Use N workers, auto or 1 to 64. Default: auto, of `each`, `keys` and `count` 1. | threads auto auto | lines.1200000 | lines -q
-README.md | Use N workers, auto or 1 to 64. Default: auto, of `each`, `keys` and `count` 1. | threads 0 0 | text.20000000 | each
+README.md | Use N workers, auto or 1 to 64. Default: auto, of `each`, `keys`, `count` and `save` 1. | threads auto auto | text.20000000 | check
+README.md | Use N workers, auto or 1 to 64. Default: auto, of `each`, `keys`, `count` and `save` 1. | threads auto - | text.20000000 | explain
+README.md | Use N workers, auto or 1 to 64. Default: auto, of `each`, `keys`, `count` and `save` 1. | threads auto - | text.1200000 | at --pointers many
+README.md | Use N workers, auto or 1 to 64. Default: auto, of `each`, `keys`, `count` and `save` 1. | threads auto - | text.1200000 | get --pointers many
+README.md | Use N workers, auto or 1 to 64. Default: auto, of `each`, `keys`, `count` and `save` 1. | threads auto - | seq.20000000 | seq -q
+README.md | Use N workers, auto or 1 to 64. Default: auto, of `each`, `keys`, `count` and `save` 1. | threads auto auto | lines.1200000 | lines -q
+README.md | Use N workers, auto or 1 to 64. Default: auto, of `each`, `keys`, `count` and `save` 1. | threads 0 0 | text.20000000 | each
+README.md | Use N workers, auto or 1 to 64. Default: auto, of `each`, `keys`, `count` and `save` 1. | threads 0 0 | text.20000000 | save
 jx.1 | auto: one for each processor that jx may use, at most 16. | threads auto auto | text.20000000 | check --workers auto
 jx.1 | auto: one for each processor that jx may use, at most 16. | threads auto - | text.20000000 | each --workers auto
 README.md | an index to keep beside a text, 0.075 % of its size | output 14800 15200 | text.20000000 | save
@@ -75,6 +76,7 @@ jx.1 | With --lines one line is kept, and by several workers the rows of 64 chun
 jx.1 | With 10000 pointers or more the whole input is | memory 19500 - | text.20000000 | at --pointers many
 jx.1 | The text is read to its end, and one element is kept in memory. | memory - 8000 | text.20000000 | each
 jx.1 | Of a FILE of a MiB at least each worker reads chunks of 16384 bytes or more for itself. | threads 4 - | text.20000000 | save --workers 4
+jx.1 | Of a FILE of a MiB at least each worker reads chunks of 16384 bytes or more for itself. | given 20000000 21000000 | text.20000000 | save --workers 4
 jx.1 | Of a FILE of a MiB at least each worker reads chunks of 16384 bytes or more for itself. | threads 0 0 | text.1048575 | save --workers 4
 jx.1 | Of a FILE of a MiB at least each worker reads chunks of 16384 bytes or more for itself. | threads 0 0 | text.20000000 | save --workers 4 --chunk 8192
 jx.1 | One worker reads standard input and pipes, and with --names, --unique-names or --progress always. | threads 0 0 | text.20000000 | save --workers 4 --names

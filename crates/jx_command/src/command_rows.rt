@@ -269,10 +269,7 @@ const SAVE: CommandRow = CommandRow {
     args: &[
         option::FILE,
         option::DEPTH,
-        ArgRow {
-            long_help: help::SAVE_WORKERS,
-            ..option::WORKERS
-        },
+        option::SAVE_WORKERS,
         option::CHUNK,
         option::TABLES,
         option::IGNORE_BOM,

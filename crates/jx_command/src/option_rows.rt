@@ -126,6 +126,13 @@ pub(crate) const EACH_WORKERS: ArgRow = ArgRow {
     ..WORKERS
 };
 
+/// One worker saves an index in less processor time, and mostly in less time.
+pub(crate) const SAVE_WORKERS: ArgRow = ArgRow {
+    default: Some("1"),
+    long_help: help::SAVE_WORKERS,
+    ..WORKERS
+};
+
 /// The size of a chunk. Each command says what chunks are.
 pub(crate) const PIECE: ArgRow = ArgRow {
     id: "piece",
