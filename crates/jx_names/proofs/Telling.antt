@@ -12,17 +12,17 @@ use Rattle.jx_index.proofs.CutNames.{ends_more, marks_more, rest}
 use Rattle.jx_index.proofs.InOrders.{comes_all, comes_end, comes_last, comes_plain, comes_token, none_begun, one_begun}
 use Rattle.jx_names.specs.declared.open_names.OpenNames.{OpenNames}
 use Rattle.jx_names.specs.inside.HeldNames.{IsHeld}
-use Rattle.jx_names.specs.inside.KeptNames.{Stands, is_name_next, kept}
+use Rattle.jx_names.specs.inside.KeptNames.{Kept, Stands, is_name_next, kept}
 use Rattle.jx_names.specs.inside.SliceNames.{HasTold, Holds, IsToldOf}
 
 -- ---- names that are told a mark
 
 -- what stands of a text does so with one mark more, whatever text it is
-abbrev pub Tells : MarkKind → ℕ → List ℕ → OpenNames → OpenNames → Type 0
-Tells kind at name old new = (text : List ℕ) (b : Building) (end : ℕ) → (is_name_next kind (kept old) ≡ true → slice_range text at end ≡ name)
-    → Stands text b (kept old) → Stands text (on_mark kind at end b) (kept new)
+abbrev pub Tells : MarkKind → ℕ → List ℕ → Kept → Kept → Type 0
+Tells kind at name old new = (text : List ℕ) (b : Building) (end : ℕ) → (is_name_next kind old ≡ true → slice_range text at end ≡ name)
+    → Stands text b old → Stands text (on_mark kind at end b) new
 
-plain_no_name : (k : MarkKind) (names : OpenNames) → is_token k ≡ false → is_name_next k (kept names) ≡ true → ⊥
+plain_no_name : (k : MarkKind) (names : Kept) → is_token k ≡ false → is_name_next k names ≡ true → ⊥
 plain_no_name mark.String names h n = cc
 plain_no_name mark.OpenArray names h n = cc
 plain_no_name mark.OpenObject names h n = cc
@@ -35,7 +35,7 @@ plain_no_name mark.True names h n = cc
 plain_no_name mark.False names h n = cc
 plain_no_name mark.Null names h n = cc
 
-module _ (before slice : List ℕ) (marks : List Mark) (ends : List ℕ) (names : OpenNames) where
+module _ (before slice : List ℕ) (marks : List Mark) (ends : List ℕ) (names : Kept) where
   told_token : (m : Mark) (name : List ℕ) → is_token m.kind ≡ true → length before ≤ m.at → IsToldOf before slice marks ends names None name
       → IsToldOf before slice (marks ++ m ∷ []) ends names (Some m) name
   told_token m name token late h = record {
@@ -46,7 +46,7 @@ module _ (before slice : List ℕ) (marks : List Mark) (ends : List ℕ) (names 
     name_is = λ n e next low. let same : m ≡ n = cc in absurd (omega (arith, late, low, ap (λ (x : Mark). x.at) same));
   }
 
-  told_plain : (m : Mark) (next : OpenNames) (name : List ℕ) → is_token m.kind ≡ false → Tells m.kind m.at [] names next → IsToldOf before slice marks ends names None name
+  told_plain : (m : Mark) (next : Kept) (name : List ℕ) → is_token m.kind ≡ false → Tells m.kind m.at [] names next → IsToldOf before slice marks ends names None name
       → IsToldOf before slice (marks ++ m ∷ []) ends next None name
   told_plain m next name plain tells h = record {
     building = on_mark m.kind m.at 0 h.building;
@@ -56,8 +56,8 @@ module _ (before slice : List ℕ) (marks : List Mark) (ends : List ℕ) (names 
     name_is = λ n e f low. absurd cc;
   }
 
-  told_end : (m : Mark) (at : ℕ) (next : OpenNames) (name after told : List ℕ) → Tells m.kind m.at told names next
-      → ((future : List ℕ) → is_name_next m.kind (kept names) ≡ true → slice_range ((before ++ slice) ++ future) m.at at ≡ told)
+  told_end : (m : Mark) (at : ℕ) (next : Kept) (name after told : List ℕ) → Tells m.kind m.at told names next
+      → ((future : List ℕ) → is_name_next m.kind names ≡ true → slice_range ((before ++ slice) ++ future) m.at at ≡ told)
       → IsToldOf before slice marks ends names (Some m) name → IsToldOf before slice marks (ends ++ at ∷ []) next None after
   told_end m at next name after told tells named h = record {
     building = on_mark m.kind m.at at h.building;
@@ -69,7 +69,7 @@ module _ (before slice : List ℕ) (marks : List Mark) (ends : List ℕ) (names 
 
 -- ---- whatever was held at the slice's start
 
-module _ (held : Holds) (slice : List ℕ) (marks : List Mark) (ends : List ℕ) (own : List ℕ) (base : ℕ) (names : OpenNames) where
+module _ (held : Holds) (slice : List ℕ) (marks : List Mark) (ends : List ℕ) (own : List ℕ) (base : ℕ) (names : Kept) where
   pub has_token : (m : Mark) (at : ℕ) (begun : Option Mark) (name : List ℕ) → at ≡ base + m.at → is_token m.kind ≡ true → begun ≡ None
       → HasTold held slice marks ends own base names begun name → HasTold held slice (marks ++ m ∷ []) ends own base names (Some (record { kind = m.kind; at = at })) name
   has_token m at begun name moved token none h = record {
@@ -85,7 +85,7 @@ module _ (held : Holds) (slice : List ℕ) (marks : List Mark) (ends : List ℕ)
         (told_token before slice (ms ++ moved_marks base marks) (es ++ moved_ends base ends) names n name token (omega (arith, b)) s));
   }
 
-  pub has_plain : (m : Mark) (at : ℕ) (next : OpenNames) (begun : Option Mark) (name : List ℕ) → at ≡ base + m.at → is_token m.kind ≡ false → begun ≡ None → Tells m.kind at [] names next
+  pub has_plain : (m : Mark) (at : ℕ) (next : Kept) (begun : Option Mark) (name : List ℕ) → at ≡ base + m.at → is_token m.kind ≡ false → begun ≡ None → Tells m.kind at [] names next
       → HasTold held slice marks ends own base names begun name → HasTold held slice (marks ++ m ∷ []) ends own base next begun name
   has_plain m at next begun name moved plain none tells h = record {
     slice_is = h.slice_is;
@@ -99,8 +99,8 @@ module _ (held : Holds) (slice : List ℕ) (marks : List Mark) (ends : List ℕ)
         (told_plain before slice (ms ++ moved_marks base marks) (es ++ moved_ends base ends) names n next name plain t s));
   }
 
-  pub has_end : (m : Mark) (at : ℕ) (next : OpenNames) (begun : Option Mark) (name after told : List ℕ) → begun ≡ Some m → Tells m.kind m.at told names next
-      → (is_name_next m.kind (kept names) ≡ true → (before future : List ℕ) → base ≡ length before → (m.at < base → name ≡ drop m.at before) → told ≡ slice_range ((before ++ own) ++ future) m.at (base + at))
+  pub has_end : (m : Mark) (at : ℕ) (next : Kept) (begun : Option Mark) (name after told : List ℕ) → begun ≡ Some m → Tells m.kind m.at told names next
+      → (is_name_next m.kind names ≡ true → (before future : List ℕ) → base ≡ length before → (m.at < base → name ≡ drop m.at before) → told ≡ slice_range ((before ++ own) ++ future) m.at (base + at))
       → HasTold held slice marks ends own base names begun name → HasTold held slice marks (ends ++ at ∷ []) own base next None after
   has_end m at next begun name after told some tells named h = record {
     slice_is = h.slice_is;
@@ -115,11 +115,11 @@ module _ (held : Holds) (slice : List ℕ) (marks : List Mark) (ends : List ℕ)
         ∙ sym (named e before future b (λ low. s.name_is m refl e (subst (λ (i : ℕ). m.at < i) b low)))) s);
   }
 
-module _ (held : Holds) (slice : List ℕ) (marks : List Mark) (ends : List ℕ) (own : List ℕ) (base : ℕ) (names : OpenNames) where
+module _ (held : Holds) (slice : List ℕ) (marks : List Mark) (ends : List ℕ) (own : List ℕ) (base : ℕ) (names : Kept) where
   -- a mark, and at once the end that belongs to it
-  pub has_whole : (m : Mark) (at to : ℕ) (next : OpenNames) (begun : Option Mark) (name after told : List ℕ) → at ≡ base + m.at → is_token m.kind ≡ true → begun ≡ None
+  pub has_whole : (m : Mark) (at to : ℕ) (next : Kept) (begun : Option Mark) (name after told : List ℕ) → at ≡ base + m.at → is_token m.kind ≡ true → begun ≡ None
       → Tells m.kind at told names next
-      → (is_name_next m.kind (kept names) ≡ true → (before future : List ℕ) → base ≡ length before → (at < base → name ≡ drop at before) → told ≡ slice_range ((before ++ own) ++ future) at (base + to))
+      → (is_name_next m.kind names ≡ true → (before future : List ℕ) → base ≡ length before → (at < base → name ≡ drop at before) → told ≡ slice_range ((before ++ own) ++ future) at (base + to))
       → HasTold held slice marks ends own base names begun name → HasTold held slice (marks ++ m ∷ []) (ends ++ to ∷ []) own base next begun after
   has_whole m at to next begun name after told moved token none tells named h =
       subst (λ (o : Option Mark). HasTold held slice (marks ++ m ∷ []) (ends ++ to ∷ []) own base next o after) (sym none)
@@ -159,7 +159,7 @@ module _ (bytes : List ℕ) (marks : List Mark) (ends : List ℕ) (names : OpenN
       subst (λ (b : Building). Stands bytes b (kept names)) (sym (comes_all marks ends h.building (length bytes) h.comes))
       (subst (λ (t : List ℕ). Stands t h.building (kept names)) (append-nil bytes) (h.stands []))
 
-  pub stands_last : (m : Mark) (after : OpenNames) → Tells m.kind m.at name names after → IsHeld bytes marks ends names (Some m) name → Stands bytes (built_of (length bytes) marks ends) (kept after)
+  pub stands_last : (m : Mark) (after : OpenNames) → Tells m.kind m.at name (kept names) (kept after) → IsHeld bytes marks ends names (Some m) name → Stands bytes (built_of (length bytes) marks ends) (kept after)
   stands_last m after tells h =
       subst (λ (b : Building). Stands bytes b (kept after)) (sym (comes_last marks ends h.building m (length bytes) h.comes))
       (tells bytes h.building (length bytes) (λ e. rest bytes m.at ∙ sym (h.name_is m refl e)) (subst (λ (t : List ℕ). Stands t h.building (kept names)) (append-nil bytes) (h.stands [])))

@@ -1,9 +1,10 @@
 // The names of open objects, as a reader gives the tokens of a slice.
-ghost use Rattle.std.specs.Prelude.{◌≡◌, ◌++◌, [], ℕ, List, Some, length, reverse, true, IfOk, IsTrue};
+ghost use Rattle.std.specs.Prelude.{◌≡◌, ◌+◌, ◌++◌, [], ℕ, List, Some, length, IfOk, IfSome};
 ghost use Rattle.jx_lex.specs.declared.alphabet.mark.Mark.{Mark};
 ghost use Rattle.jx_run.specs.Telling.{moved_ends, moved_marks};
 ghost use Rattle.jx_names.specs.inside.HeldNames.{IsHeld};
-ghost use Rattle.jx_names.specs.inside.KeptNames.{is_child_next, is_name_next, kept};
+ghost use Rattle.jx_names.specs.inside.InArrays.{IsInArrays};
+ghost use Rattle.jx_names.specs.inside.KeptNames.{is_name_next, kept};
 ghost use Rattle.jx_names.specs.inside.SliceNames.{HasTold};
 
 use crate::held::Held;
@@ -31,15 +32,23 @@ impl Before for Brand {
     ghost slice = { [] };
 }
 
-/// Whether tokens that have these counts are children of one array, which concern no name: it is open, and none of them is a
-/// bracket.
+/// How many containers are open after tokens that have these counts, where they concern no name: they open and close arrays
+/// alone, and stand in arrays.
 #[inline(always)]
-fn are_children(names: &OpenNames, counts: &TokenCounts) -> bool
-    ensures array { IsTrue result → is_child_next (reverse names.now.opened.items) names.now.name ≡ true }
-    ensures opening { IsTrue result → counts.now.opening ≡ 0 }
-    ensures closing { IsTrue result → counts.now.closing ≡ 0 }
+fn depth_behind(names: &OpenNames, counts: &TokenCounts) -> Option<usize>
+    ensures arrays { IfSome result (λ depth. IsInArrays names.now (counts.now.lowest + 1)) }
+    ensures braces { IfSome result (λ depth. counts.now.braces ≡ 0) }
+    ensures depth { IfSome result (λ depth. depth + counts.now.closing ≡ length names.now.opened.items + counts.now.opening) }
 {
-    counts.opening == 0 && counts.closing == 0 && names.is_child_next()
+    if counts.braces != 0 {
+        return None;
+    }
+    if !names.is_in_arrays(counts.lowest as usize + 1) {
+        return None;
+    }
+    let opened = names.depth().checked_add(counts.opening as usize)?;
+    let depth = opened.checked_sub(counts.closing as usize)?;
+    Some(depth)
 }
 
 /// The names of open objects, told the tokens of a slice which stands from `base` on.
@@ -62,7 +71,7 @@ impl<'a, B: Before> OnSlice<'a, B> {
         requires base { (bytes : List ℕ) (marks : List Mark) (ends : List ℕ) → B.held bytes marks ends → base ≡ length bytes }
         requires held { (bytes : List ℕ) (marks : List Mark) (ends : List ℕ) → B.held bytes marks ends
             → IsHeld bytes marks ends held.names held.begun held.name.items }
-        ensures seen { HasTold B.held B.slice [] [] result.slice.now result.base result.names result.begun result.name.items }
+        ensures seen { HasTold B.held B.slice [] [] result.slice.now result.base (kept result.names) result.begun result.name.items }
         ensures begun { result.begun ≡ held.begun }
     {
         OnSlice {
@@ -88,7 +97,7 @@ impl<'a, B: Before> OnSlice<'a, B> {
     /// The state after the slice.
     pub(crate) fn into_held(self) -> Result<Held, AllocError>
         ensures held { IfOk result (λ held. (marks : List Mark) (ends : List ℕ)
-            → HasTold B.held B.slice marks ends self.entry.slice.now self.entry.base self.entry.names self.entry.begun self.entry.name.items
+            → HasTold B.held B.slice marks ends self.entry.slice.now self.entry.base (kept self.entry.names) self.entry.begun self.entry.name.items
             → (bytes : List ℕ) (ms : List Mark) (es : List ℕ) → B.held bytes ms es
             → IsHeld (bytes ++ B.slice) (ms ++ moved_marks (length bytes) marks) (es ++ moved_ends (length bytes) ends) held.names held.begun held.name.items) }
         ensures begun { IfOk result (λ held. held.begun ≡ self.entry.begun) }
@@ -105,9 +114,10 @@ impl<'a, B: Before> OnSlice<'a, B> {
 
 impl<'a, B: Before> TokenSink for OnSlice<'a, B> {
     ghost use Rattle.std.specs.Prelude.{◌≡◌, is_some};
+    ghost use Rattle.jx_names.specs.inside.KeptNames.{kept};
     ghost use Rattle.jx_names.specs.inside.SliceNames.{HasTold};
 
-    ghost has_seen = { λ k marks ends. HasTold B.held B.slice marks ends k.slice.now k.base k.names k.begun k.name.items };
+    ghost has_seen = { λ k marks ends. HasTold B.held B.slice marks ends k.slice.now k.base (kept k.names) k.begun k.name.items };
 
     ghost awaits = { λ k inside. is_some k.begun ≡ inside };
 
@@ -148,16 +158,16 @@ impl<'a, B: Before> TokenSink for OnSlice<'a, B> {
 
     #[inline(always)]
     fn takes_counts(&self, counts: &TokenCounts) -> bool {
-        are_children(&self.names, counts)
+        depth_behind(&self.names, counts).is_some()
     }
 
     #[inline(always)]
     fn counted(&mut self, counts: &TokenCounts) -> Result<(), AllocError> {
-        if are_children(&self.names, counts) {
-            Ok(())
-        } else {
-            Err(AllocError)
-        }
+        let Some(depth) = depth_behind(&self.names, counts) else {
+            return Err(AllocError);
+        };
+        self.names.set_depth(depth)?;
+        Ok(())
     }
 
     #[inline(always)]

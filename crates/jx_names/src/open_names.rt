@@ -1,9 +1,11 @@
 // The names of the members of open objects, while a text is read.
-ghost use Rattle.std.specs.Prelude.{◌≡◌, ◌≤◌, ℕ, List, None, Some, drop, false, length, reverse, slice_range, true, IfOk};
+ghost use Rattle.std.specs.List.{All};
+ghost use Rattle.std.specs.Prelude.{◌≡◌, ◌≤◌, ℕ, List, None, Some, drop, false, length, reverse, slice_range, true, IfOk, IsTrue};
 ghost use Rattle.jx_lex.specs.declared.alphabet.mark.MarkKind.{MarkKind};
 ghost use Rattle.jx_index.specs.Repeats.{IsLeast};
 ghost use Rattle.jx_index.specs.inside.Building.{Building, is_token, nothing_built, on_mark};
 ghost use Rattle.jx_string.specs.Texts.{string_units};
+ghost use Rattle.jx_names.specs.inside.InArrays.{AreArraysBehind, IsInArrays, array_behind, resized};
 ghost use Rattle.jx_names.specs.inside.KeptNames.{cut_back, end_from, kept, is_child_next, is_name_next, names_next, with_container, with_name, with_value, Ends, IsRepeatedKept, Stands};
 
 use crate::name_bytes::{Name, add_name};
@@ -45,6 +47,35 @@ fn names_behind(names: &[Name], count: usize) -> &[Name]
     } else {
         &[]
     }
+}
+
+/// Whether the container is an array that begins after so many names.
+#[inline(always)]
+fn is_array_behind(container: &Container, names: usize) -> bool
+    ensures { IsTrue result → container.now ≡ array_behind names }
+{
+    !container.is_object && container.before == names
+}
+
+/// Whether each container is an array that begins after so many names.
+#[inline(always)]
+fn are_all_behind(opened: &[Container], names: usize) -> bool
+    ensures { IsTrue result → All (λ container. container ≡ array_behind names) opened.now }
+{
+    opened
+        .iter()
+        .all(|container| is_array_behind(container, names))
+}
+
+/// Whether the last containers, so many, are arrays that begin after so many names.
+#[inline(always)]
+fn are_arrays_behind(opened: &[Container], count: usize, names: usize) -> bool
+    ensures { IsTrue result → AreArraysBehind opened.now count names }
+{
+    if count > opened.len() {
+        return false;
+    }
+    are_all_behind(&opened[opened.len() - count..], names)
 }
 
 impl OpenNames {
@@ -176,6 +207,50 @@ impl OpenNames {
             (Some(top), None) => !top.is_object,
             _ => false,
         }
+    }
+
+    /// How many containers are open.
+    #[inline(always)]
+    pub(crate) fn depth(&self) -> usize
+        ensures { result ≡ length self.now.opened.items }
+    {
+        self.opened.len()
+    }
+
+    /// Whether no name waits, and no bytes are kept but those of names.
+    #[inline(always)]
+    fn is_settled(&self) -> bool
+        ensures name { IsTrue result → self.now.name ≡ None }
+        ensures bytes { IsTrue result → end_from 0 self.now.names.items ≡ length self.now.bytes.items }
+    {
+        if self.name.is_some() {
+            return false;
+        }
+        self.bytes_end() == self.bytes.len()
+    }
+
+    /// Whether the innermost open containers, so many, are arrays in one another, and what is kept stays as it is while they end.
+    #[inline(always)]
+    pub(crate) fn is_in_arrays(&self, count: usize) -> bool
+        ensures { IsTrue result → IsInArrays self.now count }
+    {
+        if !self.is_settled() {
+            return false;
+        }
+        are_arrays_behind(&self.opened, count, self.names.len())
+    }
+
+    /// Sets how many containers are open: inner ones end, and new ones are arrays.
+    #[inline(always)]
+    pub(crate) fn set_depth(&mut self, depth: usize) -> Result<(), AllocError>
+        ensures { IfOk result (λ _. kept self.new ≡ record (kept self.old) { opened = reverse (resized depth (array_behind (length self.old.names.items)) self.old.opened.items) }) }
+    {
+        let array = Container {
+            is_object: false,
+            before: self.names.len(),
+        };
+        self.opened.resize(depth, array)?;
+        Ok(())
     }
 
     /// A value of one token, which is no name. Fails only when out of memory.

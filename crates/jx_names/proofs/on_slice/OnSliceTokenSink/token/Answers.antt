@@ -9,7 +9,7 @@ pub returns-then-not-is_name_next-clause-seen : goal.returns-then-not-is_name_ne
 returns-then-not-is_name_next-clause-seen g c = λ marks ends h.
     let k = c.args.self.now in
     let other : is_name_next c.args.mark.kind (kept k.names) ≡ false = sym c.is_name_next.ensures ∙ c.if-not-is_name_next.true in
-    has_whole g.B.Before.held g.B.Before.slice marks ends k.slice.now k.base k.names c.args.mark _ c.args.to c.scalar.new.self k.begun k.name.items k.name.items [] refl c.requires.kind (none_of k.begun c.requires.turn)
+    has_whole g.B.Before.held g.B.Before.slice marks ends k.slice.now k.base (kept k.names) c.args.mark _ c.args.to (kept c.scalar.new.self) k.begun k.name.items k.name.items [] refl c.requires.kind (none_of k.begun c.requires.turn)
     (λ text b end named s. c.in_ok-scalar.ensures text b c.args.mark.kind _ end c.requires.kind other s)
     (λ next before future base name_is. absurd cc) h
 
@@ -17,7 +17,7 @@ pub returns-clause-seen : goal.returns-clause-seen
 returns-clause-seen g c = λ marks ends h.
     let k = c.args.self.now in
     let name = c.in_ok-name.ensures in
-    has_whole g.B.Before.held g.B.Before.slice marks ends k.slice.now k.base k.names c.args.mark c.in_ok-at.at c.args.to c.name.new.self k.begun k.name.items k.name.items (slice_range k.slice.now c.args.mark.at c.args.to)
+    has_whole g.B.Before.held g.B.Before.slice marks ends k.slice.now k.base (kept k.names) c.args.mark c.in_ok-at.at c.args.to (kept c.name.new.self) k.begun k.name.items k.name.items (slice_range k.slice.now c.args.mark.at c.args.to)
     c.in_ok-at.ensures c.requires.kind (none_of k.begun c.requires.turn)
     (λ text b end named s. let next = sym c.is_name_next.ensures ∙ c.if-not-is_name_next.false in name.stands text b c.args.mark.kind end next (named next) s)
     (λ next before future base name_is.
