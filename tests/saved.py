@@ -497,17 +497,28 @@ def bytes_of(spelling):
 NAMES = ['""', '"a"', '"\\u0061"', '"b"', '"a\\/b"', '"a/b"', '"~"', '"\\ud83d"', '"\\ud83d\\ude00"', '"\U0001F600"', '"\u00e9"', '"\\u00E9"', '"%s"' % ("long" * 40)]
 
 
+def close(rng):
+    """Arrays in one another whose tokens stand close together, so that blocks of them are read. Some have an object among them."""
+    row = lambda: "[" + ",".join(rng.choice(("1", "23", '"a"', "[]", "[4,5]")) for _ in range(rng.choice((0, 2, 8)))) + "]"
+    rows = [row() for _ in range(rng.choice((3, 20, 60)))]
+    if rng.random() < 0.3:
+        rows[rng.randrange(len(rows))] = '{"a":[1,2]}'
+    deep = rng.choice((1, 1, 3))
+    return "[" * deep + ",".join(rows) + "]" * deep
+
+
 def members_of(rng):
     """An object of many members, which stand in many chunks. In some there are more names than are kept."""
-    ways = rng.choice(("few", "few", "spelt", "empty", "nested"))
+    ways = rng.choice(("few", "few", "spelt", "empty", "nested", "close"))
     names = {
         "few": lambda n: '"%d"' % rng.randrange(300),
+        "close": lambda n: '"%d"' % rng.randrange(30),
         "spelt": lambda n: rng.choice(NAMES),
         "empty": lambda n: '""',
         "nested": lambda n: rng.choice(NAMES + [string(rng), '"%d"' % n]),
     }[ways]
-    member = {"empty": lambda: "0", "nested": lambda: value(rng, rng.choice((0, 0, 1, 3)))}.get(ways, lambda: rng.choice(("0", "true", "[7]", '{"a":1}', '"x"')))
-    return "{" + ",".join(names(n) + ":" + member() for n in range(rng.choice((3, 40, 400, 900)))) + "}"
+    member = {"empty": lambda: "0", "close": lambda: close(rng), "nested": lambda: value(rng, rng.choice((0, 0, 1, 3)))}.get(ways, lambda: rng.choice(("0", "true", "[7]", '{"a":1}', '"x"')))
+    return "{" + ",".join(names(n) + ":" + member() for n in range(rng.choice((3, 40) if ways == "close" else (3, 40, 400, 900)))) + "}"
 
 
 def text_of_names(rng):

@@ -4,6 +4,8 @@ pub mod Filling
 pub mod Fitting
 pub mod Gathering
 pub mod Lone
+pub mod Mirroring
 pub mod NamesRead
+pub mod NoNames
 pub mod Readings
 pub mod Tallies

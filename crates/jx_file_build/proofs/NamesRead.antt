@@ -7,7 +7,7 @@ use Rattle.std.proofs.Math.Nat.{suc-mul}
 use Rattle.std.proofs.Math.Seq.{drop-append_seam, take-append_seam}
 use Rattle.jx_lex.specs.declared.alphabet.mark.Mark.{Mark}
 use Rattle.jx_lex.specs.Lex.{Track}
-use Rattle.jx_reduce.specs.KnownStack.{start}
+use Rattle.jx_reduce.specs.KnownStack.{IsFault, start}
 use Rattle.jx_reduce.specs.Read.{Reading, step, read}
 use Rattle.jx_run.specs.Reader.{HasRead, Outcome, ReaderValue, is_fault, read_by}
 use Rattle.jx_run.specs.Telling.{moved_ends, moved_marks, no_tokens, tokens_by, track_of}
@@ -25,8 +25,11 @@ use Rattle.jx_file_build.specs.declared.standing.ToldChunk.{ToldChunk}
 use Rattle.jx_file_build.specs.Held.{HasReadBy}
 use Rattle.jx_file_build.specs.TextTables.{HasNames, HasTables}
 use Rattle.jx_file_build.specs.inside.NameBlocks.{AreBlocksOf, AreBlockTables}
-use Rattle.jx_file_build.specs.inside.ChunkNames.{HoldsName, IsTold, Start}
+use Rattle.jx_file_build.specs.declared.open_kinds.NamePlace.TheVariants.{Elsewhere}
+use Rattle.jx_file_build.specs.inside.ChunkNames.{GoesPast, HoldsName, IsTold, Start}
+use Rattle.jx_file_build.specs.inside.OpenKinds.{Mirrors, kinds}
 use Rattle.jx_file_build.specs.inside.NamedChunks.{AreBegun, AreNames, AreNamesAt, AreTold}
+use Rattle.jx_file_build.proofs.Mirroring.{slice_within, tokens_go}
 use Rattle.jx_file_build.proofs.Readings.{came_to, part_stays}
 
 -- ---- the names of a text that grows
@@ -77,11 +80,10 @@ named_more settings size xs chunk n begun later names own whole fits h of =
 -- ---- chunk by chunk
 
 -- no byte was read
-pub none_told : (settings : Settings) (size : ℕ) (c : NamedChunks) → c.standing.stack.depth ≡ settings.depth → c.standing.stack.reading ≡ start → c.standing.begun ≡ None → AreBlocksOf [] c.blocks
+pub none_told : (settings : Settings) (size : ℕ) (c : NamedChunks) → kinds c.standing.kinds ≡ record { opened = []; name = Elsewhere } → c.standing.begun ≡ None → AreBlocksOf [] c.blocks
     → tokens_by settings.mark [] ≡ no_tokens → AreTold settings size [] 0 c
-none_told settings size c deep reads free blocks no_token = record {
-  depth = deep;
-  reading = reads ∙ ap (λ (t : Track). read settings.depth t.marks start) (sym no_token);
+none_told settings size c kinds_are free blocks no_token = record {
+  mirrors = subst (λ (t : Track). Mirrors (read settings.depth t.marks start) (kinds c.standing.kinds)) (sym no_token) kinds_are;
   names = [];
   named = subst (λ (o : Option Mark). AreNamed settings size [] 0 o []) (sym free) none;
   name_is = λ m e behind. let no : None ≡ Some m = sym free ∙ e in absurd cc;
@@ -99,7 +101,7 @@ some_begun outcome c turn = λ h is. let same : c ≡ h = cc in subst (λ (x : N
 -- what stands before the next chunk
 abbrev pub before_chunk : NamedChunks → ℕ → List ℕ → Start
 before_chunk c base chunk = record {
-  stack = c.standing.stack;
+  kinds = kinds c.standing.kinds;
   begun = c.standing.begun;
   name = c.standing.name.items;
   base = base;
@@ -131,30 +133,28 @@ module _ (settings : Settings) (size : ℕ) (bytes chunk : List ℕ) (n : ℕ) (
     told_on t going =
         let goes : is_fault (Some (read_by settings.mark settings.depth 0 bytes)) ≡ false = subst (λ (o : Option Outcome). is_fault o ≡ false) (came_to settings bytes r was) (goes_before going) in
         let track = track_of (read_by settings.mark settings.depth 0 bytes) chunk in
-        let d = t.depth in
         let made = tells going (read_by settings.mark settings.depth 0 bytes) (came_to settings bytes r was) in
-        let of = made.told_of bytes (sym at) t.name_is in
         let all = (tokens_by settings.mark bytes).marks in
         let grown : (tokens_by settings.mark (bytes ++ chunk)).marks ≡ all ++ moved_marks (length bytes) track.marks = marks goes in
+        let whole_reading : read settings.depth (moved_marks base track.marks) (read settings.depth all start) ≡ read settings.depth (tokens_by settings.mark (bytes ++ chunk)).marks start =
+        ap (λ (i : ℕ). read settings.depth (moved_marks i track.marks) (read settings.depth all start)) at
+        ∙ sym (fold-append (λ reading mark. step settings.depth mark reading) start all (moved_marks (length bytes) track.marks))
+        ∙ ap (λ (ms : List Mark). read settings.depth ms start) (sym grown) in
+        let going_text : is_fault (Some (read_by settings.mark settings.depth 0 (bytes ++ chunk))) ≡ false = subst (λ (o : Option Outcome). is_fault o ≡ false) (came_to settings (bytes ++ chunk) q now) going in
+        let past : GoesPast settings.depth (read settings.depth all start) (moved_marks base track.marks) track.ends (length chunk) =
+        record { going = λ f. tokens_go settings.mark settings.depth (bytes ++ chunk) going_text (subst IsFault whole_reading f); within = slice_within (read_by settings.mark settings.depth 0 bytes) chunk } in
+        let of = made.told_of settings.depth (read settings.depth all start) t.mirrors past bytes (sym at) t.name_is in
         let own : NamesAt settings (bytes ++ chunk) (read settings.depth all start) (length bytes) track c.standing.begun told.standing.begun of.names =
-        subst (λ (i : ℕ). NamesAt settings (bytes ++ chunk) (read settings.depth all start) i track c.standing.begun told.standing.begun of.names) at
-        (subst (λ (r : Reading). NamesAt settings (bytes ++ chunk) r base track c.standing.begun told.standing.begun of.names) t.reading
-        (subst (λ (i : ℕ). NamesOf (bytes ++ chunk) i c.standing.stack.reading c.standing.begun (moved_marks base track.marks) (moved_ends base track.ends) told.standing.begun of.names) d of.are)) in
+        subst (λ (i : ℕ). NamesAt settings (bytes ++ chunk) (read settings.depth all start) i track c.standing.begun told.standing.begun of.names) at of.are in
         let named = named_more settings size bytes chunk n c.standing.begun told.standing.begun t.names of.names whole fits t.named own in
         let o = sym same_open in
         record {
-          depth = subst (λ (s : Standing). s.stack.depth ≡ settings.depth) o (made.depth ∙ d);
-          reading =
-              ap (λ (s : Standing). s.stack.reading) same_open
-              ∙ made.reading
-              ∙ ap (λ (i : ℕ). read i (moved_marks base track.marks) c.standing.stack.reading) d
-              ∙ ap (λ (i : ℕ). read settings.depth (moved_marks i track.marks) c.standing.stack.reading) at
-              ∙ ap (read settings.depth (moved_marks (length bytes) track.marks)) t.reading
-              ∙ sym (fold-append (λ reading mark. step settings.depth mark reading) start all (moved_marks (length bytes) track.marks))
-              ∙ ap (λ (ms : List Mark). read settings.depth ms start) (sym grown);
+          mirrors =
+              subst (λ (s : Standing). Mirrors (read settings.depth (tokens_by settings.mark (bytes ++ chunk)).marks start) (kinds s.kinds)) o
+              (subst (λ (r : Reading). Mirrors r (kinds told.standing.kinds)) whole_reading (made.mirrors settings.depth (read settings.depth all start) t.mirrors));
           names = t.names ++ of.names ∷ [];
           named = subst (λ (s : Standing). AreNamed settings size (bytes ++ chunk) (suc n) s.begun (t.names ++ of.names ∷ [])) o named;
-          name_is = subst (λ (s : Standing). HoldsName (bytes ++ chunk) s.stack s.begun s.name.items) o of.name_is;
+          name_is = subst (λ (s : Standing). HoldsName (bytes ++ chunk) (kinds s.kinds) s.begun s.name.items) o of.name_is;
           blocks = fills t.names of.names t.blocks of.hashes_are;
           counted = counted ∙ ap suc t.counted;
         }

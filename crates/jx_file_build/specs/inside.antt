@@ -2,4 +2,5 @@
 pub mod ChunkNames
 pub mod NameBlocks
 pub mod NamedChunks
+pub mod OpenKinds
 pub mod Tallied

@@ -7,6 +7,7 @@ ghost use Rattle.jx_index.specs.inside.InTurn.{IsInTurn};
 ghost use Rattle.jx_file_index.specs.Chunks.{entry_behind};
 ghost use Rattle.jx_file_build.specs.Held.{HasReadBy};
 ghost use Rattle.jx_file_build.specs.inside.ChunkNames.{IsTold};
+ghost use Rattle.jx_file_build.specs.inside.OpenKinds.{kinds};
 ghost use Rattle.jx_file_build.specs.inside.NamedChunks.{AreBegun, AreFit, AreNamesAt};
 ghost use Rattle.jx_file_build.specs.inside.Tallied.{ReadsOn, Tells};
 
@@ -47,7 +48,7 @@ fn name_chunk<B: Before>(
     requires fits { reader.old.start + reader.old.count + length chunk.now < 2 ^ 64 }
     requires chunk { chunk.now ≡ B.start.chunk }
     requires base { reader.old.start + reader.old.count ≡ B.start.base }
-    requires stack { standing.stack ≡ B.start.stack }
+    requires kinds { kinds standing.kinds ≡ B.start.kinds }
     requires begun { standing.begun ≡ B.start.begun }
     requires name { standing.name.items ≡ B.start.name }
     requires turn { IsInTurn reader.old.outcome standing.begun }

@@ -10,6 +10,7 @@ mod likely;
 mod lone_chunk;
 mod named_chunks;
 mod on_chunk;
+mod open_kinds;
 mod part_filling;
 mod sink_pair;
 mod standing;

@@ -8,9 +8,9 @@ ghost use Rattle.jx_file_build.specs.inside.NameBlocks.{IsKeyCount};
 ghost use Rattle.jx_file_build.specs.inside.NamedChunks.{AreFit, AreNames, AreTold, FitChunks, FitTables};
 
 use crate::blocks::Blocks;
+use crate::open_kinds::OpenKinds;
 use crate::standing::Standing;
 use jx_file_index::{ChunkSize, NameTables};
-use jx_reduce::KnownStack;
 use jx_run::{Settings, slices_are_told_in_turn};
 use std::alloc::{AllocError, Global};
 
@@ -45,7 +45,7 @@ impl NamedChunks {
         NamedChunks {
             alloc,
             standing: Standing {
-                stack: KnownStack::new(alloc, settings.depth),
+                kinds: OpenKinds::new(alloc),
                 begun: None,
                 name: Vec::new(alloc),
             },

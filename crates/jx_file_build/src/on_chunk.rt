@@ -1,14 +1,14 @@
 // The names of a chunk, as a reader gives its tokens.
-ghost use Rattle.std.specs.Prelude.{◌≡◌, ◌==◌, ◌&&◌, ◌≤◌, [], ℕ, List, length, if◌then◌else◌, IfOk};
+ghost use Rattle.std.specs.Prelude.{◌≡◌, ◌==◌, ◌&&◌, [], ℕ, List, if◌then◌else◌, IfOk};
 ghost use Rattle.jx_lex.specs.declared.alphabet.mark.Mark.{Mark};
-ghost use Rattle.jx_file_index.specs.Names.{is_behind_name, is_colon};
 ghost use Rattle.jx_file_build.specs.inside.ChunkNames.{HasGathered, IsTold};
+ghost use Rattle.jx_file_build.specs.inside.OpenKinds.{is_last, kinds};
 
+use crate::open_kinds::OpenKinds;
 use crate::standing::{Standing, ToldChunk};
 use jx_file_index::{Sum, hash_of_string};
 use jx_index::{has_end, held_name, moved, token_bytes};
-use jx_lex::{Mark, TokenSink};
-use jx_reduce::{Expect, KnownStack, Whole};
+use jx_lex::{Mark, TokenCounts, TokenSink};
 use std::alloc::{AllocError, Global};
 use std::marker::{Brand, PhantomData};
 
@@ -21,9 +21,9 @@ pub trait Before {
 
 impl Before for Brand {
     ghost use Rattle.std.specs.Prelude.{[], None};
-    ghost use Rattle.jx_reduce.specs.KnownStack.{start};
+    ghost use Rattle.jx_file_build.specs.declared.open_kinds.NamePlace.TheVariants.{Elsewhere};
 
-    ghost start = { record { stack = record { depth = 0; reading = start }; begun = None; name = []; base = 0; chunk = [] } };
+    ghost start = { record { kinds = record { opened = []; name = Elsewhere }; begun = None; name = []; base = 0; chunk = [] } };
 }
 
 /// The names of a chunk which stands from `base` on.
@@ -31,7 +31,7 @@ impl Before for Brand {
 pub struct OnChunk<'a, B> {
     chunk: &'a [u8],
     base: usize,
-    stack: KnownStack,
+    kinds: OpenKinds,
     sum: Sum,
     /// A token that has begun and not ended.
     begun: Option<Mark>,
@@ -43,48 +43,17 @@ pub struct OnChunk<'a, B> {
     before: PhantomData<B>,
 }
 
-fn is_colon(expect: Expect) -> bool
-    ensures { result ≡ is_colon expect }
-{
-    match expect {
-        Expect::Colon => true,
-        Expect::Value | Expect::ArrayFirst | Expect::ObjectFirst | Expect::Name | Expect::After =>
-            false,
-    }
-}
-
-/// Whether the last string is a name.
-fn is_behind_name(stack: &KnownStack) -> bool
-    ensures { result ≡ is_behind_name stack.now.reading }
-{
-    match stack.whole() {
-        Whole::Went { expect, .. } => is_colon(expect),
-        Whole::Stopped(_) | Whole::TooDeep(_) => false,
-    }
-}
-
 /// Whether a string that ends is a name that is kept: no container is open that was opened in the chunk.
-fn is_kept(stack: &KnownStack, sum: Sum) -> bool
-    ensures { result ≡ (is_behind_name stack.now.reading && (sum.opened == 0)) }
+fn is_kept(around: &OpenKinds, sum: Sum) -> bool
+    ensures { result ≡ (is_last around.now.name && (sum.opened == 0)) }
 {
     if sum.opened != 0 {
         return false;
     }
-    is_behind_name(stack)
+    around.is_behind_name()
 }
 
-/// Whether an end lies in a chunk: else it is refused, as when out of memory.
-fn check_end(chunk: &[u8], at: usize) -> Result<(), AllocError>
-    ensures { IfOk result (λ _. at ≤ length chunk.now) }
-{
-    if at <= chunk.len() {
-        Ok(())
-    } else {
-        Err(AllocError)
-    }
-}
-
-/// Forgets the hashes of names where a token start closes a container that was open before the chunk.
+/// Forgets the hashes of names where tokens close a container that was open before the chunk.
 fn keep_hashes(hashes: &mut Vec<u32>, before: Sum, behind: Sum)
     ensures { hashes.new.items ≡ (if behind.closed == before.closed then hashes.old.items else []) }
 {
@@ -103,16 +72,16 @@ impl<'a, B: Before> OnChunk<'a, B> {
     ) -> OnChunk<'a, B>
         requires chunk { chunk.now ≡ B.start.chunk }
         requires base { base ≡ B.start.base }
-        requires stack { standing.stack ≡ B.start.stack }
+        requires kinds { kinds standing.kinds ≡ B.start.kinds }
         requires begun { standing.begun ≡ B.start.begun }
         requires name { standing.name.items ≡ B.start.name }
-        ensures seen { HasGathered B.start [] [] result.chunk.now result.base result.stack result.sum result.begun result.name.items result.hashes.items }
+        ensures seen { HasGathered B.start [] [] result.chunk.now result.base (kinds result.kinds) result.sum result.begun result.name.items result.hashes.items }
         ensures begun { result.begun ≡ standing.begun }
     {
         OnChunk {
             chunk,
             base,
-            stack: standing.stack,
+            kinds: standing.kinds,
             sum: Sum::new(),
             begun: standing.begun,
             name: standing.name,
@@ -125,15 +94,15 @@ impl<'a, B: Before> OnChunk<'a, B> {
     /// The standing after the chunk, and the hashes of its names.
     pub(crate) fn into_told(self) -> Result<ToldChunk, AllocError>
         ensures told { IfOk result (λ told. (marks : List Mark) (ends : List ℕ)
-            → HasGathered B.start marks ends self.entry.chunk.now self.entry.base self.entry.stack self.entry.sum self.entry.begun self.entry.name.items self.entry.hashes.items
+            → HasGathered B.start marks ends self.entry.chunk.now self.entry.base (kinds self.entry.kinds) self.entry.sum self.entry.begun self.entry.name.items self.entry.hashes.items
             → IsTold B.start marks ends told) }
         ensures begun { IfOk result (λ told. told.standing.begun ≡ self.entry.begun) }
     {
-        let wanted = is_behind_name(&self.stack);
+        let wanted = self.kinds.is_behind_name();
         let name = held_name(self.name, self.chunk, self.base, self.begun, wanted)?;
         Ok(ToldChunk {
             standing: Standing {
-                stack: self.stack,
+                kinds: self.kinds,
                 begun: self.begun,
                 name,
             },
@@ -145,25 +114,25 @@ impl<'a, B: Before> OnChunk<'a, B> {
 impl<'a, B: Before> TokenSink for OnChunk<'a, B> {
     ghost use Rattle.std.specs.Prelude.{◌≡◌, is_some};
     ghost use Rattle.jx_file_build.specs.inside.ChunkNames.{HasGathered};
+    ghost use Rattle.jx_file_build.specs.inside.OpenKinds.{kinds};
 
-    ghost has_seen = { λ k marks ends. HasGathered B.start marks ends k.chunk.now k.base k.stack k.sum k.begun k.name.items k.hashes.items };
+    ghost has_seen = { λ k marks ends. HasGathered B.start marks ends k.chunk.now k.base (kinds k.kinds) k.sum k.begun k.name.items k.hashes.items };
 
     ghost awaits = { λ k inside. is_some k.begun ≡ inside };
 
     #[inline(always)]
     fn begin(&mut self, mark: Mark) -> Result<(), AllocError> {
         let at = moved(self.base, mark.at)?;
-        let begun = Mark {
-            kind: mark.kind,
-            at,
-        };
-        self.stack.push(begun)?;
+        self.kinds.push(mark.kind)?;
         let Some(sum) = self.sum.step(mark.kind) else {
             return Err(AllocError);
         };
         if has_end(mark.kind) {
             self.sum = sum;
-            self.begun = Some(begun);
+            self.begun = Some(Mark {
+                kind: mark.kind,
+                at,
+            });
             return Ok(());
         }
         keep_hashes(&mut self.hashes, self.sum, sum);
@@ -176,8 +145,7 @@ impl<'a, B: Before> TokenSink for OnChunk<'a, B> {
         let Some(mark) = self.begun else {
             unreachable!()
         };
-        check_end(self.chunk, at)?;
-        if !is_kept(&self.stack, self.sum) {
+        if !is_kept(&self.kinds, self.sum) {
             self.begun = None;
             return Ok(());
         }
@@ -193,12 +161,34 @@ impl<'a, B: Before> TokenSink for OnChunk<'a, B> {
     }
 
     #[inline(always)]
+    fn wants_counts(&self) -> bool {
+        self.kinds.may_count()
+    }
+
+    #[inline(always)]
+    fn takes_counts(&self, counts: &TokenCounts) -> bool {
+        self.kinds.depth_behind(counts).is_some() && self.sum.counted(counts).is_some()
+    }
+
+    #[inline(always)]
+    fn counted(&mut self, counts: &TokenCounts) -> Result<(), AllocError> {
+        let Some(depth) = self.kinds.depth_behind(counts) else {
+            return Err(AllocError);
+        };
+        let Some(sum) = self.sum.counted(counts) else {
+            return Err(AllocError);
+        };
+        self.kinds.set_depth(depth)?;
+        keep_hashes(&mut self.hashes, self.sum, sum);
+        self.sum = sum;
+        Ok(())
+    }
+
+    #[inline(always)]
     fn token(&mut self, mark: Mark, to: usize) -> Result<(), AllocError> {
-        let kind = mark.kind;
         let at = moved(self.base, mark.at)?;
-        self.stack.push(Mark { kind, at })?;
-        check_end(self.chunk, to)?;
-        if !is_kept(&self.stack, self.sum) {
+        self.kinds.push(mark.kind)?;
+        if !is_kept(&self.kinds, self.sum) {
             return Ok(());
         }
         let name = token_bytes(&mut self.name, self.chunk, self.base, at, to, true)?;

@@ -1,11 +1,11 @@
 // The containers and the name of a text that are open between two chunks.
+use crate::open_kinds::OpenKinds;
 use jx_lex::Mark;
-use jx_reduce::KnownStack;
 
 /// The open containers. Also a token that has begun, and of a name the bytes so far.
 #[derive(Drop)]
 pub struct Standing {
-    pub stack: KnownStack,
+    pub kinds: OpenKinds,
     pub begun: Option<Mark>,
     pub name: Vec<u8>,
 }

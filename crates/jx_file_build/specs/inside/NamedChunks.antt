@@ -13,14 +13,14 @@ use Rattle.jx_file_index.specs.SavedTexts.{FitsTable}
 use Rattle.jx_file_build.specs.declared.named_chunks.NamedChunks.{NamedChunks}
 use Rattle.jx_file_build.specs.inside.NameBlocks.{AreBlocksOf, FitBlocks, IsKeyCount}
 use Rattle.jx_file_build.specs.inside.ChunkNames.{HoldsName}
+use Rattle.jx_file_build.specs.inside.OpenKinds.{Mirrors, kinds}
 
 -- the names of so many chunks of this size, of these bytes
 pub record AreTold (settings : Settings) (size : ℕ) (bytes : List ℕ) (n : ℕ) (c : NamedChunks) : Type 0 where
-  pub depth : c.standing.stack.depth ≡ settings.depth
-  pub reading : c.standing.stack.reading ≡ read settings.depth (tokens_by settings.mark bytes).marks start
+  pub mirrors : Mirrors (read settings.depth (tokens_by settings.mark bytes).marks start) (kinds c.standing.kinds)
   pub names : List (List (List ℕ))
   pub named : AreNamed settings size bytes n c.standing.begun names
-  pub name_is : HoldsName bytes c.standing.stack c.standing.begun c.standing.name.items
+  pub name_is : HoldsName bytes (kinds c.standing.kinds) c.standing.begun c.standing.name.items
   pub blocks : AreBlocksOf names c.blocks
   pub counted : c.blocks.chunks ≡ n
 
