@@ -4,6 +4,7 @@ ghost use Rattle.jx_file_index.specs.Digest.{xxh64};
 ghost use Rattle.jx_file_lines.specs.declared.line_index.LineEntry.{LineEntry};
 ghost use Rattle.jx_file_lines.specs.Feeding.{AreEntered, HasFedLines, IsLostToLines};
 ghost use Rattle.jx_file_lines.specs.Lines.{feeds_in};
+ghost use Rattle.jx_file_lines.specs.Saved.{IsSavable};
 ghost use Rattle.jx_file_lines.specs.TextLines.{IsLineIndexOf, feeds_before};
 
 use crate::counting::feeds_in;
@@ -138,6 +139,8 @@ impl LineIndexer {
     /// than 2 ^ 64 - 1.
     pub fn finish(self) -> Result<LineIndex, AllocError>
         ensures index { IfOk result (λ index. (chunk : ℕ) (bytes : List ℕ) → HasFedLines chunk bytes self → IsLineIndexOf chunk bytes index) }
+        // All of it fits its bytes.
+        ensures savable { IfOk result (λ index. (chunk : ℕ) (bytes : List ℕ) → HasFedLines chunk bytes self → IsSavable index) }
         ensures lost { IsLostToLines self → IsErr result }
     {
         let LineIndexer {

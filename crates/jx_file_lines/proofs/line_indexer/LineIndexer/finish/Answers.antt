@@ -1,6 +1,8 @@
-use Rattle.std.proofs.Common.{◌≡◌, ◌*◌, ◌++◌, ◌∷◌, [], ◌∙◌, ap, arith, length, subst, sym, ℕ, List, Global, Vec}
+use Rattle.std.proofs.Common.{◌≡◌, ◌*◌, rules, ◌++◌, ◌∷◌, [], ◌∙◌, ap, arith, length, subst, sym, ℕ, List, Global, Vec}
 use Rattle.jx_file_lines.specs.declared.line_index.LineEntry.{LineEntry}
 use Rattle.jx_file_lines.proofs.Entries.{AreAll, all_none, all_last, list_none, list_some, next_entry}
+use Rattle.jx_file_index.specs.Chunks.{IsChunkSize}
+use Rattle.jx_file_lines.proofs.Fitting.{fits}
 use Rattle.jx_file_lines.proofs.line_indexer.LineIndexer.finish.Goals as goal
 use Rattle.jx_file_lines.proofs.line_indexer.LineIndexer.finish.Goals.{then-not-is_empty+in_ok-push_entry, else-not-is_empty}
 
@@ -31,3 +33,8 @@ returns-clause-index c = λ chunk bytes h.
       counted = all.counted;
       entries_are = all.entries_are;
     }
+
+pub returns-clause-savable : goal.returns-clause-savable
+returns-clause-savable c = λ chunk bytes h.
+    let valid : IsChunkSize c.args.self.chunk = search rules in
+    fits chunk bytes _ (subst IsChunkSize h.chunk_is valid) (search rules) (returns-clause-index c chunk bytes h)
