@@ -1,6 +1,6 @@
 -- How what is due is written round by round.
 use Rattle.std.specs.Prelude.{Option, None, Some, Result, Ok, Err, IfErr}
-use Rattle.std.proofs.Common.{◌≡◌, ℕ, List, [], ◌++◌, length, Bool, true, false, refl, sym, ap, subst, ◌∙◌}
+use Rattle.std.proofs.Common.{◌≡◌, ℕ, List, [], ◌++◌, length, Bool, true, false, refl, ap, subst, ◌∙◌}
 use Rattle.std.proofs.lemmas.List.{append-nil}
 use Rattle.std.specs.Io.KnownBytes.{Appends}
 use Rattle.std.proofs.KnownBytes.{Appends-nil, Appends-trans}
@@ -11,7 +11,7 @@ use Rattle.jx_drive.specs.Reports.{Dues, Outputs}
 use Rattle.jx_parallel.specs.declared.check_fault.CheckFault.{CheckFault}
 use Rattle.jx_parallel.specs.declared.check_fault.CheckFault.TheVariants as check
 use Rattle.jx_parallel.specs.Faults.{IfRead, ReadFailsBy}
-use Rattle.jx_parallel.specs.Offsets.{EndsBefore, IsContent, StandThere}
+use Rattle.jx_parallel.specs.Offsets.{EndsBefore, StandThere}
 use Rattle.jx_parallel.specs.Parts.{GoesOn, Readings}
 use Rattle.jx_parallel.proofs.There.{is_whole}
 use Rattle.jx_drive_at.specs.declared.report_at_fault.ReportAtFault.{ReportAtFault}

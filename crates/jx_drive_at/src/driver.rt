@@ -1,5 +1,5 @@
 // Writes the output that is due while workers judge parts of an input.
-ghost use Rattle.std.specs.Prelude.{◌≡◌, ◌≢◌, ◌<◌, ◌≤◌, ◌↔◌, ◌++◌, ℕ, List, Option, [], true, false, length, is_err, IfErr, IfOk, IsErrOf, OnErr, OnOk};
+ghost use Rattle.std.specs.Prelude.{◌≡◌, ◌≢◌, ◌≤◌, ◌↔◌, ◌++◌, ℕ, List, Option, [], true, false, is_err, IfErr, IfOk, IsErrOf, OnErr, OnOk};
 ghost use Rattle.std.specs.Io.KnownBytes.{Appends};
 ghost use Rattle.std.specs.Thread.{IsSend, IsSync};
 ghost use Rattle.jx_ends.specs.Ends.{AppendsBeginning};
@@ -7,31 +7,14 @@ ghost use Rattle.jx_drive_at.specs.ReportsAt.{FailsBy, ReadsOn, ReportsAllAt, Wr
 ghost use Rattle.jx_drive_at.specs.inside.Rounds.{AfterFault, IsWrittenAt};
 
 use crate::report_at_fault::ReportAtFault;
+use crate::rounds::Rounds;
 use jx_crew::Workers;
 use jx_drive::Reporter;
 use jx_ends::{Exit, ReportFault, Sink, write_whole};
-use jx_parallel::{CheckFault, PartReader, SharedAt, read_round};
+use jx_parallel::{CheckFault, PartReader, SharedAt};
 use std::alloc::Global;
 use std::sync::Wait;
 use std::thread::Threads;
-
-/// How many chunks each worker has in the first round, in the mean. A round has twice as many as the one before.
-const FIRST: usize = 4;
-
-/// How many chunks a round has at most. What was made of them is kept at once.
-const MOST: usize = 64;
-
-/// The number of chunks of the next round.
-fn next_count(count: usize, is_full: bool) -> usize
-    requires { count ≤ 64 }
-    ensures { result ≤ 64 }
-{
-    if is_full {
-        count / 2 + 1
-    } else {
-        count.saturating_mul(2).min(MOST)
-    }
-}
 
 /// Writes what waits, and then the messages, and lets both go.
 fn write_waiting<B, T: Reporter<B>, W: Sink>(
@@ -57,8 +40,8 @@ fn write_waiting<B, T: Reporter<B>, W: Sink>(
     }
 }
 
-/// Lets the reporter go on by a round of at most so many chunks, and writes what waits then. Answers whether more bytes follow,
-/// and sets how many chunks the next round has. After a read fault it writes what is due of the bytes before it.
+/// Lets the reporter go on by the next round, and writes what waits then. Answers whether more bytes follow. After a read fault it
+/// writes what is due of the bytes before it.
 fn report_round<
     B,
     F: SharedAt + Sync,
@@ -66,12 +49,8 @@ fn report_round<
     W: Sink,
     R: Threads + Wait + Sync,
 >(
-    rt: &R,
-    alloc: Global,
+    rounds: &mut Rounds<'_, R>,
     file: &F,
-    workers: Workers,
-    buffer: &mut [u8],
-    count: &mut usize,
     rule: &T::Rule,
     writer: &mut W,
     beside: &mut B,
@@ -79,11 +58,7 @@ fn report_round<
     reporter: &mut T,
 ) -> Result<bool, ReportAtFault<F::Fault>>
     requires reads { (was now : B) (bytes given : List ℕ) (old : T) → T.has_taken task.now was now bytes given old → ReadsOn (T.has_read rule.now) (λ xs. T.has_taken task.now was now xs given) bytes old }
-    requires room { 0 < length buffer.old }
-    requires round { count.old ≤ 64 }
     requires writer { W.has_failed writer.old ≡ false }
-    ensures length { length buffer.new ≡ length buffer.old }
-    ensures round { count.new ≤ 64 }
     ensures ok { IfOk result (λ more. (was : B) (written : Option (List ℕ)) → IsWrittenAt (T.has_taken task.now was beside.old) T.ready T.told (F.content file.now) true written (W.contents writer.old) reporter.old
         → IsWrittenAt (T.has_taken task.now was beside.new) T.ready T.told (F.content file.now) more written (W.contents writer.new) reporter.new) }
     ensures going { OnOk result (W.has_failed writer.new ≡ false) }
@@ -92,9 +67,8 @@ fn report_round<
         → AfterFault (T.is_due task.now was beside.new) (T.is_begun task.now was beside.new) (F.content file.now) (F.may_fail file.now) written (W.contents writer.new) fault) }
 {
     T::what_waits_is_due();
-    match read_round(rt, alloc, file, workers, buffer, *count, rule, reporter) {
+    match rounds.read(file, rule, reporter) {
         Ok(more) => {
-            *count = next_count(*count, reporter.is_full());
             let _end = reporter.end();
             match write_waiting(writer, beside, reporter) {
                 Ok(()) => Ok(more),
@@ -118,10 +92,8 @@ fn report_rounds<
     R: Threads + Wait + Sync,
 >(
     rt: &R,
-    alloc: Global,
+    rounds: &mut Rounds<'_, R>,
     file: &F,
-    workers: Workers,
-    buffer: &mut [u8],
     rule: &T::Rule,
     writer: &mut W,
     beside: &mut B,
@@ -129,7 +101,6 @@ fn report_rounds<
     reporter: &mut T,
 ) -> Result<(), ReportAtFault<F::Fault>>
     requires reads { (was now : B) (bytes given : List ℕ) (old : T) → T.has_taken task.now was now bytes given old → ReadsOn (T.has_read rule.now) (λ xs. T.has_taken task.now was now xs given) bytes old }
-    requires room { 0 < length buffer.old }
     requires writer { W.has_failed writer.old ≡ false }
     requires begun { IsWrittenAt (T.has_taken task.now beside.old beside.old) T.ready T.told (F.content file.now) true (W.contents writer.old) (W.contents writer.old) reporter.old }
     ensures ok { OnOk result (IsWrittenAt (T.has_taken task.now beside.old beside.new) T.ready T.told (F.content file.now) false (W.contents writer.old) (W.contents writer.new) reporter.new) }
@@ -137,11 +108,8 @@ fn report_rounds<
     ensures write { IsErrOf result ReportAtFault.Write ↔ (W.has_failed writer.new ≡ true) }
     ensures fault { IfErr result (AfterFault (T.is_due task.now beside.old beside.new) (T.is_begun task.now beside.old beside.new) (F.content file.now) (F.may_fail file.now) (W.contents writer.old) (W.contents writer.new)) }
 {
-    let mut count = FIRST.saturating_mul(workers.count() as usize).min(MOST);
     for _ in rt.forever() {
-        match report_round(
-            rt, alloc, file, workers, buffer, &mut count, rule, writer, beside, task, reporter,
-        ) {
+        match report_round(rounds, file, rule, writer, beside, task, reporter) {
             Ok(true) => {}
             Ok(false) => return Ok(()),
             Err(fault) => return Err(fault),
@@ -207,14 +175,10 @@ fn report_of<
     ensures fault { IfErr result (AfterFault (T.is_due task.now beside.old beside.new) (T.is_begun task.now beside.old beside.new) (F.content file.now) (F.may_fail file.now) (W.contents writer.old) (W.contents writer.new)) }
 {
     T::what_waits_is_due();
-    let mut buffer = Vec::new(alloc);
-    if buffer.resize(step, 0u8).is_err() {
+    let Ok(mut rounds) = Rounds::new(rt, alloc, workers, step) else {
         return Err(ReportAtFault::Memory);
-    }
-    let slice = buffer.as_mut_slice();
-    match report_rounds(
-        rt, alloc, file, workers, slice, rule, writer, beside, task, reporter,
-    ) {
+    };
+    match report_rounds(rt, &mut rounds, file, rule, writer, beside, task, reporter) {
         Ok(()) => write_end(writer, beside, task, reporter),
         Err(fault) => Err(fault),
     }

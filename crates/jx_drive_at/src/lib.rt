@@ -3,6 +3,7 @@
 
 mod driver;
 mod report_at_fault;
+mod rounds;
 mod steps;
 
 pub use driver::report_by_rounds;

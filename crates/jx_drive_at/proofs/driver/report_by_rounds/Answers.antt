@@ -1,4 +1,4 @@
-use Rattle.jx_drive_at.proofs.Rounds.{beginning_after, due_after, reason_after}
+use Rattle.jx_drive_at.proofs.InRounds.{beginning_after, due_after, reason_after}
 use Rattle.jx_drive_at.proofs.driver.report_by_rounds.Goals as goal
 
 pub returns-clause-read : goal.returns-clause-read

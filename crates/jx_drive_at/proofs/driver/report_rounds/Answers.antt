@@ -6,8 +6,6 @@ pub loop-preserved : goal.loop-preserved
 loop-preserved g c = record {
   next = tt;
   finite = tt;
-  room = search rules;
-  round = search rules;
   writer = search rules;
   written =
       let more : c.in-Ok-true.field-0 ≡ true = search rules in

@@ -1,6 +1,6 @@
 use Rattle.std.proofs.Common.{List, ℕ, false, subst}
 use Rattle.jx_ends.specs.Ends.{AppendsBeginning}
-use Rattle.jx_drive_at.proofs.Rounds.{in_part}
+use Rattle.jx_drive_at.proofs.InRounds.{in_part}
 use Rattle.jx_drive_at.proofs.driver.write_end.Goals as goal
 
 pub returns-in-Err-clause-fault : goal.returns-in-Err-clause-fault
