@@ -1,6 +1,7 @@
 // The moves over token starts from the start of a text, in a struct of fixed size that C holds.
 //
 // Each of its fields may hold any number, since C may hand anything over: what they mean is said for all of them.
+// So it is no `KnownStack` over other words, whose fields keep an invariant; but the same loops read over both.
 ghost use Rattle.std.specs.Prelude.{◌≡◌, ◌+◌, ◌-◌, ◌*◌, ◌%◌, ◌<◌, ◌↔◌, ◌++◌, ◌∷◌, [], ℕ, List, IsTrue, length};
 ghost use Rattle.jx_lex.specs.declared.alphabet.mark.Mark.{Mark};
 ghost use Rattle.jx_reduce.specs.Bits.{holder_of};

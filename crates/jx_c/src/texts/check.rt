@@ -10,13 +10,37 @@ use crate::shapes::status::{DEPTH_TOO_GREAT, NO_MEMORY, OK, UNKNOWN_FLAG};
 use crate::shapes::verdict::{JxVerdict, shown};
 use crate::streams::reader::JxReader;
 use jx_index::{repeated_name_by_rows, verdict_with_unique_names};
-use jx_run::{NameRule, NoPause, Settings, Verdict};
+use jx_run::{NameRule, NoPause, Reader, Settings, Verdict};
 use std::alloc::{AllocError, Global};
 
-/// The verdict on a text by settings, whatever names its objects have. It takes no memory.
-fn verdict_with_any_names(text: &[u8], settings: &Settings) -> Result<Verdict, AllocError>
+/// How many bytes a short text has at most: so many open containers take no memory in a reader of `jx_run`.
+const SHORT: usize = 64;
+
+/// The verdict on a text by settings, whatever names its objects have. A short one takes no memory, and no words for the
+/// greatest depth have to be made first.
+fn verdict_on_short_text(
+    alloc: Global,
+    text: &[u8],
+    settings: &Settings,
+) -> Result<Verdict, AllocError>
     ensures { IfOk result (JudgedBy settings.now 0 text.now) }
 {
+    let mut reader = Reader::new(alloc, settings, 0);
+    reader.feed(text)?;
+    Ok(reader.verdict())
+}
+
+/// The verdict on a text by settings, whatever names its objects have. It takes no memory.
+fn verdict_with_any_names(
+    alloc: Global,
+    text: &[u8],
+    settings: &Settings,
+) -> Result<Verdict, AllocError>
+    ensures { IfOk result (JudgedBy settings.now 0 text.now) }
+{
+    if text.len() <= SHORT {
+        return verdict_on_short_text(alloc, text, settings);
+    }
     let mut reader = JxReader::new(settings);
     reader.feed(text)?;
     Ok(reader.verdict())
@@ -28,7 +52,7 @@ pub fn verdict_by(alloc: Global, text: &[u8], settings: &Settings) -> Result<Ver
 {
     repeated_name_by_rows();
     match settings.names {
-        NameRule::Any => verdict_with_any_names(text, settings),
+        NameRule::Any => verdict_with_any_names(alloc, text, settings),
         NameRule::Unique => verdict_with_unique_names(alloc, text, settings, &mut NoPause),
     }
 }
