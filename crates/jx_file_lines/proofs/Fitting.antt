@@ -1,5 +1,5 @@
 -- All of the index of a text fits its bytes.
-use Rattle.std.proofs.Common.{◌≡◌, ℕ, zero, suc, ◌+◌, ◌*◌, ◌/◌, ◌%◌, ◌^◌, ◌<◌, ◌≤◌, List, [], ◌∷◌, ◌++◌, length, take, bit_xor, mod-lt, subst, sym, arith}
+use Rattle.std.proofs.Common.{ℕ, zero, suc, ◌*◌, ◌/◌, ◌%◌, ◌^◌, ◌<◌, ◌≤◌, List, [], ◌∷◌, ◌++◌, length, take, bit_xor, mod-lt, subst, sym, arith}
 use Rattle.std.proofs.lemmas.List.Sums.{count_by-le-length, sum_by-take-le}
 use Rattle.std.proofs.lemmas.Nat.{pow_pos, xor_lt}
 use Rattle.std.proofs.Math.Nat.{div-le_self}
