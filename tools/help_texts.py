@@ -24,10 +24,12 @@ def row_of(text, named, said):
     row = dict(named.get(base[1], {})) if base else {}
     for field, value in re.findall(r"^\s*(\w+): (.*?),$", text, re.M):
         constant = re.fullmatch(r"help::(\w+)", value)
-        quoted = re.search(r"""["'](.*?)["']""", value)
-        row[field] = said[constant[1]] if constant else quoted[1] if quoted else "auto" if value == "Some(AUTO)" else value
-        if field == "takes":
-            row["is_list"] = value.startswith("Takes::Words")
+        quoted = re.search(r'"(.*?)"', value)
+        row[field] = said[constant[1]] if constant else quoted[1] if quoted else value
+        if field == "form":
+            row["value"], row["is_word"] = quoted[1] if quoted else "", value.startswith("Form::Word")
+    if "rules:" in text:
+        row["rules"] = dict(re.findall(r"""Rule::(\w+)(?:\(["']?([^"'()]*)["']?\))?""", text.partition("rules:")[2]))
     return row
 
 
@@ -40,25 +42,32 @@ def rows(said):
 
 
 # Each command has the first, and the program both.
-HELP = {"short": "h", "long": "help", "help": "Print help (see more with '--help')", "long_help": "Print help (see a summary with '-h')"}
+HELP = {
+    "name": "help",
+    "help": "Print help (see more with '--help')",
+    "long_help": "Print help (see a summary with '-h')",
+    "rules": {"Short": "h"},
+}
 
-VERSION = {"short": "V", "long": "version", "help": "Print version", "long_help": "Print version"}
+VERSION = {"name": "version", "help": "Print version", "long_help": "Print version", "rules": {"Short": "V"}}
 
 
 class Option:
     """An option or an argument by its row."""
 
     def __init__(self, row):
-        value = row.get("takes")
+        value, rules = row.get("value", ""), row["rules"]
         self.value = value
-        self.flags = [mark + row[size] for size, mark in (("short", "-"), ("long", "--")) if size in row]
-        self.is_required = row.get("is_required") == "true"
+        self.flags = [] if row.get("is_word") else ["--" + row["name"]]
+        if "Short" in rules:
+            self.flags.insert(0, "-" + rules["Short"])
+        self.is_required = "Required" in rules
         if self.flags:
             self.head = ", ".join(self.flags) + (" <%s>" % value if value else "")
         else:
-            self.head = "[%s]%s" % (value, "..." if row["is_list"] else "")
+            self.head = "[%s]%s" % (value, "..." if "Several" in rules else "")
         self.name = self.flags[-1] if self.flags else self.head
-        self.default = row.get("default", "")
+        self.default = {"AUTO": "auto"}.get(rules.get("Default"), rules.get("Default", ""))
         # As `-h` and `--help` print it.
         self.summary = row["help"] + (" [default: %s]" % self.default if self.default else "")
         self.lines = row["long_help"].split("\n")

@@ -73,7 +73,10 @@ fn front_of(
         Told::Lines if !is_named => return Ok(Vec::new(alloc)),
         _ => shown_name(alloc, name)?,
     };
-    front.extend_from_slice(if told == Told::Marks { b":" } else { b": " })?;
+    front.extend_from_slice(match told {
+        Told::Marks => b":",
+        _ => b": ",
+    })?;
     Ok(front)
 }
 
@@ -203,7 +206,7 @@ fn tell_input<R: Threads + Wait + Sync>(
 
 /// Writes the name of an input that is refused, where names alone are asked for.
 fn list(rt: &HostRuntime, told: Told, input: Input<'_>, status: Status) -> Result<Status, Fault> {
-    if told == Told::Refused && status == Status::Bad {
+    if matches!(told, Told::Refused) && status == Status::Bad {
         write_name(rt, input)?;
     }
     Ok(status)

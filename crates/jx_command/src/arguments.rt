@@ -59,7 +59,7 @@ fn fault_of(alloc: Global, words: &[&str], error: clap::Error) -> ArgFault {
 
 /// Whether a byte order mark is ignored or refused by the options.
 pub(crate) fn mark_of(options: &ArgMatches<'_>) -> FrontMark {
-    if options.get_flag("ignore_bom") {
+    if options.get_flag("ignore-bom") {
         FrontMark::Ignored
     } else {
         FrontMark::Refused
@@ -68,7 +68,7 @@ pub(crate) fn mark_of(options: &ArgMatches<'_>) -> FrontMark {
 
 /// Whether names have to be unique or may be any by the options.
 fn names_of(options: &ArgMatches<'_>) -> NameRule {
-    if options.get_flag("unique_names") {
+    if options.get_flag("unique-names") {
         NameRule::Unique
     } else {
         NameRule::Any
@@ -99,7 +99,7 @@ pub(crate) fn pointers_of(
     options: &ArgMatches<'_>,
 ) -> Result<Vec<String>, AllocError> {
     let mut pointers = Vec::new(alloc);
-    if let Some(words) = options.get_strs("pointers") {
+    if let Some(words) = options.get_strs("pointer") {
         for word in words {
             pointers.push(String::from_str(alloc, word)?)?;
         }
@@ -156,7 +156,7 @@ pub(crate) fn inputs_named<'a>(
     if reads_standard_twice(&words) {
         return Err(ArgFault::StandardTwice);
     }
-    if options.get_flag("with_filename") {
+    if options.get_flag("with-filename") {
         return inputs_behind_names(options, words).map_err(|_| ArgFault::Memory);
     }
     match options.get_str("file") {
@@ -215,7 +215,7 @@ fn report_order<'a>(
     Ok(Order::Report(Request {
         command: command_from(task, workers, options),
         inputs: inputs_named(options, words_of(alloc, options))?,
-        pointers: options.get_str("pointers_file"),
+        pointers: options.get_str("pointers"),
         index: options.get_str("index"),
         told,
         progress: progress_of(options),
@@ -299,9 +299,35 @@ fn order_from<'a>(
     }
 }
 
+/// The words as the grammar reads them.
+fn matches_of<'a>(alloc: Global, words: &'a [&'a str]) -> Result<ArgMatches<'a>, ArgFault> {
+    let grammar = match grammar(alloc) {
+        Ok(grammar) => grammar,
+        Err(_) => return Err(ArgFault::Memory),
+    };
+    match grammar.try_get_matches_from(words) {
+        Ok(matches) => Ok(matches),
+        Err(error) => Err(fault_of(alloc, words, error)),
+    }
+}
+
+/// The order of words that are a command by the grammar. It has no arguments without a command, so that what stands here for them is
+/// never met.
+fn order_of<'a>(
+    alloc: Global,
+    matches: &ArgMatches<'a>,
+    processors: usize,
+) -> Result<Order<'a>, ArgFault>
+    ensures { IfOk result HasPieces }
+{
+    let (name, options) = matches.subcommand().unwrap_or(("check", matches));
+    let called = called_by(name).unwrap_or(Called::Check);
+    let workers = workers_of(alloc, options, processors)?;
+    order_from(alloc, called, workers, options)
+}
+
 /// The order that the words give, the first of which is the program's name. Each FILE and each POINTER are taken as they stand: they are not cut,
-/// trimmed or read. Where the words are no command, or ask for help or the version, `Err` has the parts of the message. The grammar has no arguments
-/// without a command, so that what is here for them is never met.
+/// trimmed or read. Where the words are no command, or ask for help or the version, `Err` has the parts of the message.
 ///
 /// `--workers auto` is as many workers as there are processors, at least 1 and at most 16.
 pub fn command_of<'a>(
@@ -311,12 +337,6 @@ pub fn command_of<'a>(
 ) -> Result<Order<'a>, ArgFault>
     ensures { IfOk result HasPieces }
 {
-    let grammar = grammar(alloc).map_err(|_| ArgFault::Memory)?;
-    let matches = grammar
-        .try_get_matches_from(words)
-        .map_err(|error| fault_of(alloc, words, error))?;
-    let (name, options) = matches.subcommand().unwrap_or(("check", &matches));
-    let called = called_by(name).unwrap_or(Called::Check);
-    let workers = workers_of(alloc, options, processors)?;
-    order_from(alloc, called, workers, options)
+    let matches = matches_of(alloc, words)?;
+    order_of(alloc, &matches, processors)
 }

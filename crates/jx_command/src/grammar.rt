@@ -1,68 +1,78 @@
 // The commands and options by which arguments are read, made from rows of data.
-use crate::arg_row::{ArgRow, Takes};
+use crate::arg_row::{ArgRow, Form, Rule};
 use crate::command_rows::{ALL, CommandRow, row_of};
 use crate::help;
+use clap::builder::ValueParser;
 use clap::{Arg, ArgAction, Command};
 use std::alloc::{AllocError, Global};
 
-/// An argument that takes what its row says.
-fn taking<'a>(arg: Arg<'a>, takes: Takes) -> Arg<'a> {
-    match takes {
-        Takes::Nothing => arg.action(ArgAction::SetTrue),
-        Takes::Word(name) => arg.value_name(name),
-        Takes::AnyWord(name) => arg.value_name(name).allow_hyphen_values(true),
-        Takes::Words(name) => arg.value_name(name).num_args(1..),
-        Takes::Parsed(name, parser) => arg
-            .value_name(name)
-            .value_parser(parser)
-            .hide_possible_values(true),
+/// An argument of a form, behind the name of its option if it has one.
+fn formed<'a>(arg: Arg<'a>, name: &'a str, form: Form) -> Arg<'a> {
+    match form {
+        Form::Flag => arg.long(name).action(ArgAction::SetTrue),
+        Form::Option(value) => arg.long(name).value_name(value),
+        Form::Word(value) => arg.value_name(value),
     }
 }
 
-/// An argument as its row has it.
-fn spelt<'a>(arg: Arg<'a>, row: &ArgRow) -> Arg<'a> {
-    let arg = match row.short {
-        Some(short) => arg.short(short),
-        None => arg,
-    };
-    match row.long {
-        Some(long) => arg.long(long),
-        None => arg,
-    }
+fn of_words<'a>(arg: Arg<'a>) -> Arg<'a> {
+    arg.num_args(1..)
 }
 
-/// An argument that is read, where it is left out, as its row says.
-fn defaulting<'a>(arg: Arg<'a>, row: &ArgRow) -> Arg<'a> {
-    match row.default {
-        Some(default) => arg.default_value(default),
-        None => arg,
-    }
+fn parsed_by<'a>(arg: Arg<'a>, parser: ValueParser<'a>) -> Arg<'a> {
+    arg.value_parser(parser).hide_possible_values(true)
 }
 
-/// An argument that goes with others as its row says.
-fn among_others<'a>(arg: Arg<'a>, row: &ArgRow) -> Result<Arg<'a>, AllocError> {
-    arg.conflicts_with_all(row.conflicts)?
-        .requires_all(row.needs)?
-        .required_unless_present_any(row.unless)
+/// An argument for which a rule holds, too.
+fn ruled_by<'a>(arg: Arg<'a>, rule: Rule) -> Result<Arg<'a>, AllocError> {
+    match rule {
+        Rule::Short(letter) => Ok(arg.short(letter)),
+        Rule::AnyWord => Ok(arg.allow_hyphen_values(true)),
+        Rule::Several => Ok(of_words(arg)),
+        Rule::Parsed(parser) => Ok(parsed_by(arg, parser)),
+        Rule::Default(value) => Ok(arg.default_value(value)),
+        Rule::Required => Ok(arg.required(true)),
+        Rule::Conflicts(others) => arg.conflicts_with_all(others),
+        Rule::Needs(others) => arg.requires_all(others),
+        Rule::Unless(others) => arg.required_unless_present_any(others),
+    }
 }
 
 fn arg_of_row<'a>(alloc: Global, row: &ArgRow) -> Result<Arg<'a>, AllocError> {
-    let arg = Arg::new(alloc, row.id)
-        .required(row.is_required)
+    let arg = Arg::new(alloc, row.name)
         .help(row.help)
         .long_help(row.long_help);
-    let arg = taking(spelt(arg, row), row.takes);
-    among_others(defaulting(arg, row), row)
+    let mut arg = formed(arg, row.name, row.form);
+    for rule in row.rules {
+        arg = ruled_by(arg, *rule)?;
+    }
+    Ok(arg)
+}
+
+/// The arguments of rows.
+fn args_of_rows<'a>(alloc: Global, rows: &[ArgRow]) -> Result<Vec<Arg<'a>>, AllocError> {
+    let mut args = Vec::new(alloc);
+    for row in rows {
+        args.push(arg_of_row(alloc, row)?)?;
+    }
+    Ok(args)
 }
 
 fn command_of_row<'a>(alloc: Global, row: &CommandRow) -> Result<Command<'a>, AllocError> {
-    let mut command = Command::new(alloc, row.name)
+    let args = args_of_rows(alloc, row.args)?;
+    Command::new(alloc, row.name)
         .about(row.about)
-        .after_long_help(row.after);
-    for arg in row.args {
-        command = command.arg(arg_of_row(alloc, arg)?)?;
+        .after_long_help(row.after)
+        .args(args)
+}
+
+/// The commands of the program.
+fn commands<'a>(alloc: Global) -> Result<Vec<Command<'a>>, AllocError> {
+    let mut commands = Vec::new(alloc);
+    for called in &ALL {
+        commands.push(command_of_row(alloc, &row_of(*called))?)?;
     }
-    Ok(command)
+    Ok(commands)
 }
 
 /// The program without its commands.
@@ -80,9 +90,6 @@ fn program<'a>(alloc: Global) -> Command<'a> {
 
 /// The program with its commands.
 pub(crate) fn grammar<'a>(alloc: Global) -> Result<Command<'a>, AllocError> {
-    let mut program = program(alloc);
-    for called in &ALL {
-        program = program.subcommand(command_of_row(alloc, &row_of(*called))?)?;
-    }
-    Ok(program)
+    let commands = commands(alloc)?;
+    program(alloc).subcommands(commands)
 }

@@ -5,7 +5,7 @@ ghost use Rattle.jx_command.specs.Inputs.{is_dash, AreInputsOf, AreNamedInputsOf
 use std::alloc::AllocError;
 
 /// An input that one word names.
-#[derive(Clone, Copy, Debug, PartialEq, Eq)]
+#[derive(Clone, Copy)]
 pub enum Input<'a> {
     /// Standard input.
     Standard,
@@ -14,7 +14,7 @@ pub enum Input<'a> {
 }
 
 /// The inputs that are read.
-#[derive(Debug, PartialEq, Drop)]
+#[derive(Drop)]
 pub enum Inputs<'a> {
     /// One input, whose answer stands alone.
     One(Input<'a>),

@@ -45,7 +45,7 @@ pub(crate) fn lines_order_from<'a>(
         },
         workers,
         piece: piece_of(options).unwrap_or(1),
-        skips_blanks: options.get_flag("skip_blank"),
+        skips_blanks: options.get_flag("skip-blank"),
         is_quiet: options.get_flag("quiet") || options.get_flag("list"),
         told: format_of(options),
         pass: pass_from(options),

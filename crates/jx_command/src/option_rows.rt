@@ -1,5 +1,5 @@
 // The options and words of the commands.
-use crate::arg_row::{ArgRow, FLAG, Takes};
+use crate::arg_row::{ArgRow, Form, Rule};
 use crate::help;
 use crate::worker_count::AUTO;
 use clap::builder::ValueParser;
@@ -20,88 +20,85 @@ const GREATEST_FROM: u64 = 9_223_372_036_854_775_807;
 pub(crate) const MOST_PARTS: u64 = 65_536;
 
 pub(crate) const FILE: ArgRow = ArgRow {
-    id: "file",
-    short: Some('f'),
-    long: Some("file"),
-    takes: Takes::AnyWord("FILE"),
+    name: "file",
+    form: Form::Option("FILE"),
     help: help::FILE,
     long_help: help::LONG_FILE,
-    ..FLAG
+    rules: &[Rule::Short('f'), Rule::AnyWord],
 };
 
 /// The file of a text whose index is given.
 pub(crate) const TEXT_FILE: ArgRow = ArgRow {
-    is_required: true,
     help: help::TEXT_FILE,
     long_help: help::LONG_TEXT_FILE,
+    rules: &[Rule::Short('f'), Rule::AnyWord, Rule::Required],
     ..FILE
 };
 
 /// The inputs that are read, as words.
 pub(crate) const FILES: ArgRow = ArgRow {
-    id: "files",
-    takes: Takes::Words("FILE"),
+    name: "files",
+    form: Form::Word("FILE"),
     help: help::FILES,
     long_help: help::LONG_FILES,
-    conflicts: &["file"],
-    ..FLAG
+    rules: &[Rule::Several, Rule::Conflicts(&["file"])],
 };
 
 /// The input that is read, as one word.
 pub(crate) const ONE_FILE: ArgRow = ArgRow {
-    takes: Takes::Word("FILE"),
+    form: Form::Word("FILE"),
     help: help::ONE_FILE,
     long_help: help::LONG_ONE_FILE,
+    rules: &[Rule::Conflicts(&["file"])],
     ..FILES
 };
 
 pub(crate) const WITH_FILENAME: ArgRow = ArgRow {
-    id: "with_filename",
-    short: Some('H'),
-    long: Some("with-filename"),
+    name: "with-filename",
+    form: Form::Flag,
     help: help::WITH_FILENAME,
     long_help: help::LONG_WITH_FILENAME,
-    ..FLAG
+    rules: &[Rule::Short('H')],
 };
 
 pub(crate) const COLOR: ArgRow = ArgRow {
-    id: "color",
-    long: Some("color"),
-    takes: Takes::Parsed("WHEN", ValueParser::Names(WHEN)),
-    default: Some("auto"),
+    name: "color",
+    form: Form::Option("WHEN"),
     help: help::COLOR,
     long_help: help::LONG_COLOR,
-    ..FLAG
+    rules: &[
+        Rule::Parsed(ValueParser::Names(WHEN)),
+        Rule::Default("auto"),
+    ],
 };
 
 /// Whether accepted texts are reported too.
 pub(crate) const VERBOSE: ArgRow = ArgRow {
-    id: "verbose",
-    short: Some('v'),
-    long: Some("verbose"),
+    name: "verbose",
+    form: Form::Flag,
     help: help::VERBOSE,
     long_help: help::LONG_VERBOSE,
-    ..FLAG
+    rules: &[Rule::Short('v')],
 };
 
 /// Whether refused texts alone are reported.
 pub(crate) const REFUSED: ArgRow = ArgRow {
-    id: "refused",
-    long: Some("refused"),
+    name: "refused",
+    form: Form::Flag,
     help: help::REFUSED,
     long_help: help::LONG_REFUSED,
-    conflicts: &["verbose"],
-    ..FLAG
+    rules: &[Rule::Conflicts(&["verbose"])],
 };
 
 pub(crate) const DEPTH: ArgRow = ArgRow {
-    id: "depth",
-    long: Some("depth"),
-    takes: Takes::Parsed("N", ValueParser::Signed(0, 65_535)),
-    default: Some("512"),
+    name: "depth",
+    form: Form::Option("N"),
     help: help::DEPTH,
     long_help: help::LONG_DEPTH,
-    ..FLAG
+    rules: &[
+        Rule::Parsed(ValueParser::Signed(0, 65_535)),
+        Rule::Default("512"),
+    ],
 };
 
 pub(crate) const DEPTH_OF_RUNS: ArgRow = ArgRow {
@@ -111,18 +108,17 @@ pub(crate) const DEPTH_OF_RUNS: ArgRow = ArgRow {
 
 /// Among how many workers. Each command says what they share.
 pub(crate) const WORKERS: ArgRow = ArgRow {
-    id: "workers",
-    long: Some("workers"),
-    takes: Takes::Word("N"),
-    default: Some(AUTO),
+    name: "workers",
+    form: Form::Option("N"),
     help: help::WORKERS,
-    ..FLAG
+    long_help: "",
+    rules: &[Rule::Default(AUTO)],
 };
 
 /// One worker makes the lines of elements in less processor time, and mostly in less time.
 pub(crate) const EACH_WORKERS: ArgRow = ArgRow {
-    default: Some("1"),
     long_help: help::READ_WORKERS,
+    rules: &[Rule::Default("1")],
     ..WORKERS
 };
 
@@ -135,12 +131,14 @@ pub(crate) const SAVE_WORKERS: ArgRow = ArgRow {
 
 /// The size of a chunk. Each command says what chunks are.
 pub(crate) const PIECE: ArgRow = ArgRow {
-    id: "piece",
-    long: Some("piece"),
-    takes: Takes::Parsed("N", ValueParser::Unsigned(1, 1_073_741_824)),
-    default: Some("65536"),
+    name: "piece",
+    form: Form::Option("N"),
     help: help::PIECE,
-    ..FLAG
+    long_help: "",
+    rules: &[
+        Rule::Parsed(ValueParser::Unsigned(1, 1_073_741_824)),
+        Rule::Default("65536"),
+    ],
 };
 
 /// The same where one worker reads.
@@ -150,188 +148,178 @@ pub(crate) const BOUNDING_PIECE: ArgRow = ArgRow {
 };
 
 pub(crate) const IGNORE_BOM: ArgRow = ArgRow {
-    id: "ignore_bom",
-    long: Some("ignore-bom"),
+    name: "ignore-bom",
+    form: Form::Flag,
     help: help::IGNORE_BOM,
     long_help: help::LONG_IGNORE_BOM,
-    ..FLAG
+    rules: &[],
 };
 
 pub(crate) const UNIQUE_NAMES: ArgRow = ArgRow {
-    id: "unique_names",
-    long: Some("unique-names"),
+    name: "unique-names",
+    form: Form::Flag,
     help: help::UNIQUE_NAMES,
     long_help: help::LONG_UNIQUE_NAMES,
-    ..FLAG
+    rules: &[],
 };
 
 pub(crate) const QUIET: ArgRow = ArgRow {
-    id: "quiet",
-    short: Some('q'),
-    long: Some("quiet"),
+    name: "quiet",
+    form: Form::Flag,
     help: help::QUIET,
     long_help: help::LONG_QUIET,
-    ..FLAG
+    rules: &[Rule::Short('q')],
 };
 
 pub(crate) const LIST: ArgRow = ArgRow {
-    id: "list",
-    short: Some('l'),
-    long: Some("list"),
+    name: "list",
+    form: Form::Flag,
     help: help::LIST,
     long_help: help::LONG_LIST,
-    conflicts: &["quiet"],
-    ..FLAG
+    rules: &[Rule::Short('l'), Rule::Conflicts(&["quiet"])],
 };
 
 pub(crate) const FORMAT: ArgRow = ArgRow {
-    id: "format",
-    long: Some("format"),
-    takes: Takes::Parsed("FORMAT", ValueParser::Names(FORMATS)),
-    default: Some("plain"),
+    name: "format",
+    form: Form::Option("FORMAT"),
     help: help::FORMAT,
     long_help: help::LONG_FORMAT,
-    conflicts: &["list", "quiet"],
-    ..FLAG
+    rules: &[
+        Rule::Parsed(ValueParser::Names(FORMATS)),
+        Rule::Default("plain"),
+        Rule::Conflicts(&["list", "quiet"]),
+    ],
 };
 
 pub(crate) const PROGRESS: ArgRow = ArgRow {
-    id: "progress",
-    long: Some("progress"),
-    takes: Takes::Parsed("WHEN", ValueParser::Names(WHEN)),
-    default: Some("never"),
+    name: "progress",
+    form: Form::Option("WHEN"),
     help: help::PROGRESS,
     long_help: help::LONG_PROGRESS,
-    ..FLAG
+    rules: &[
+        Rule::Parsed(ValueParser::Names(WHEN)),
+        Rule::Default("never"),
+    ],
 };
 
 pub(crate) const COMPACT: ArgRow = ArgRow {
-    id: "compact",
-    short: Some('c'),
-    long: Some("compact"),
+    name: "compact",
+    form: Form::Flag,
     help: help::COMPACT,
     long_help: help::LONG_COMPACT,
-    ..FLAG
+    rules: &[Rule::Short('c')],
 };
 
 pub(crate) const RAW: ArgRow = ArgRow {
-    id: "raw",
-    short: Some('r'),
-    long: Some("raw"),
+    name: "raw",
+    form: Form::Flag,
     help: help::RAW,
     long_help: help::LONG_RAW,
-    ..FLAG
+    rules: &[Rule::Short('r')],
 };
 
 /// Whether each line of what is read is a text of its own.
 pub(crate) const BY_LINE: ArgRow = ArgRow {
-    id: "by_line",
-    long: Some("lines"),
+    name: "lines",
+    form: Form::Flag,
     help: help::BY_LINE,
     long_help: help::LONG_BY_LINE,
-    conflicts: &["raw", "unique_names"],
-    ..FLAG
+    rules: &[Rule::Conflicts(&["raw", "unique-names"])],
 };
 
 pub(crate) const SKIP_BLANK: ArgRow = ArgRow {
-    id: "skip_blank",
-    long: Some("skip-blank"),
+    name: "skip-blank",
+    form: Form::Flag,
     help: help::SKIP_BLANK,
     long_help: help::LONG_SKIP_BLANK,
-    ..FLAG
+    rules: &[],
 };
 
 pub(crate) const PASS: ArgRow = ArgRow {
-    id: "pass",
-    long: Some("pass"),
+    name: "pass",
+    form: Form::Flag,
     help: help::PASS,
     long_help: help::LONG_PASS,
-    conflicts: &["quiet", "list"],
-    ..FLAG
+    rules: &[Rule::Conflicts(&["quiet", "list"])],
 };
 
 pub(crate) const BAD: ArgRow = ArgRow {
-    id: "bad",
-    long: Some("bad"),
-    takes: Takes::Word("FILE"),
+    name: "bad",
+    form: Form::Option("FILE"),
     help: help::BAD,
     long_help: help::LONG_BAD,
-    needs: &["pass"],
-    ..FLAG
+    rules: &[Rule::Needs(&["pass"])],
 };
 
 /// How many refused lines are reported of an input, at most.
 pub(crate) const MAX: ArgRow = ArgRow {
-    id: "max",
-    long: Some("max"),
-    takes: Takes::Parsed("N", ValueParser::Unsigned(1, u64::MAX)),
+    name: "max",
+    form: Form::Option("N"),
     help: help::MAX,
     long_help: help::LONG_MAX,
-    conflicts: &["quiet", "list", "pass"],
-    ..FLAG
+    rules: &[
+        Rule::Parsed(ValueParser::Unsigned(1, u64::MAX)),
+        Rule::Conflicts(&["quiet", "list", "pass"]),
+    ],
 };
 
 /// The same where lines are answered beside whole texts.
 pub(crate) const SKIP_BLANK_BY_LINE: ArgRow = ArgRow {
-    needs: &["by_line"],
+    rules: &[Rule::Needs(&["lines"])],
     ..SKIP_BLANK
 };
 
 /// Whether the values of a line are texts in the cells of a row.
 pub(crate) const TABLE: ArgRow = ArgRow {
-    id: "format",
-    long: Some("format"),
-    takes: Takes::Parsed("FORMAT", ValueParser::Names(TABLE_FORMS)),
+    name: "format",
+    form: Form::Option("FORMAT"),
     help: help::TABLE,
     long_help: help::LONG_TABLE,
-    needs: &["by_line"],
-    ..FLAG
+    rules: &[
+        Rule::Parsed(ValueParser::Names(TABLE_FORMS)),
+        Rule::Needs(&["lines"]),
+    ],
 };
 
 pub(crate) const HEADER: ArgRow = ArgRow {
-    id: "header",
-    long: Some("header"),
+    name: "header",
+    form: Form::Flag,
     help: help::HEADER,
     long_help: help::LONG_HEADER,
-    needs: &["format"],
-    ..FLAG
+    rules: &[Rule::Needs(&["format"])],
 };
 
 pub(crate) const NULL: ArgRow = ArgRow {
-    id: "null",
-    long: Some("null"),
-    takes: Takes::AnyWord("WORD"),
+    name: "null",
+    form: Form::Option("WORD"),
     help: help::NULL,
     long_help: help::LONG_NULL,
-    needs: &["format"],
-    ..FLAG
+    rules: &[Rule::AnyWord, Rule::Needs(&["format"])],
 };
 
 pub(crate) const POINTERS: ArgRow = ArgRow {
-    id: "pointers",
-    takes: Takes::Words("POINTER"),
+    name: "pointer",
+    form: Form::Word("POINTER"),
     help: help::POINTER,
     long_help: help::LONG_POINTER,
-    unless: &["pointers_file"],
-    ..FLAG
+    rules: &[Rule::Several, Rule::Unless(&["pointers"])],
 };
 
 pub(crate) const POINTERS_FILE: ArgRow = ArgRow {
-    id: "pointers_file",
-    long: Some("pointers"),
-    takes: Takes::AnyWord("FILE"),
+    name: "pointers",
+    form: Form::Option("FILE"),
     help: help::POINTERS,
     long_help: help::LONG_POINTERS,
-    ..FLAG
+    rules: &[Rule::AnyWord],
 };
 
 /// The pointer to the container whose elements are written.
 pub(crate) const CONTAINER: ArgRow = ArgRow {
-    id: "pointer",
-    takes: Takes::Word("POINTER"),
+    name: "pointer",
+    form: Form::Word("POINTER"),
     help: help::CONTAINER,
     long_help: help::LONG_CONTAINER,
-    ..FLAG
+    rules: &[],
 };
 
 /// The pointer to the container that is split.
@@ -343,11 +331,11 @@ pub(crate) const SPLIT_CONTAINER: ArgRow = ArgRow {
 
 /// Whether members are written with their names.
 pub(crate) const NAMES: ArgRow = ArgRow {
-    id: "names",
-    long: Some("names"),
+    name: "names",
+    form: Form::Flag,
     help: help::NAMES,
     long_help: help::LONG_NAMES,
-    ..FLAG
+    rules: &[],
 };
 
 /// Whether tables of names follow an index.
@@ -359,91 +347,99 @@ pub(crate) const TABLES: ArgRow = ArgRow {
 
 /// The index of the text that is read, which says how it is read.
 pub(crate) const INDEX: ArgRow = ArgRow {
-    id: "index",
-    long: Some("index"),
-    takes: Takes::AnyWord("FILE"),
+    name: "index",
+    form: Form::Option("FILE"),
     help: help::INDEX_FILE,
     long_help: help::LONG_INDEX_FILE,
-    ..FLAG
+    rules: &[Rule::AnyWord],
 };
 
 /// The index without which nothing is split.
 pub(crate) const SPLIT_INDEX: ArgRow = ArgRow {
-    is_required: true,
+    rules: &[Rule::AnyWord, Rule::Required],
     ..INDEX
 };
 
 /// The index where options say how a text without one is read.
 pub(crate) const AT_INDEX: ArgRow = ArgRow {
-    conflicts: &["depth", "ignore_bom", "unique_names"],
-    needs: &["file"],
+    rules: &[
+        Rule::AnyWord,
+        Rule::Conflicts(&["depth", "ignore-bom", "unique-names"]),
+        Rule::Needs(&["file"]),
+    ],
     ..INDEX
 };
 
 /// The same where lines may be answered.
 pub(crate) const GET_INDEX: ArgRow = ArgRow {
-    conflicts: &["depth", "ignore_bom", "unique_names", "by_line"],
+    rules: &[
+        Rule::AnyWord,
+        Rule::Conflicts(&["depth", "ignore-bom", "unique-names", "lines"]),
+        Rule::Needs(&["file"]),
+    ],
     ..AT_INDEX
 };
 
 pub(crate) const LIVE: ArgRow = ArgRow {
-    id: "live",
-    long: Some("live"),
+    name: "live",
+    form: Form::Flag,
     help: help::LIVE,
     long_help: help::LONG_LIVE,
-    conflicts: &["unique_names"],
-    ..FLAG
+    rules: &[Rule::Conflicts(&["unique-names"])],
 };
 
 pub(crate) const CHUNK: ArgRow = ArgRow {
-    id: "chunk",
-    long: Some("chunk"),
-    takes: Takes::Parsed("N", ValueParser::Unsigned(64, 1_048_576)),
-    default: Some("32768"),
+    name: "chunk",
+    form: Form::Option("N"),
     help: help::CHUNK,
     long_help: help::LONG_CHUNK,
-    ..FLAG
+    rules: &[
+        Rule::Parsed(ValueParser::Unsigned(64, 1_048_576)),
+        Rule::Default("32768"),
+    ],
 };
 
 /// How many parts a container is split into.
 pub(crate) const PARTS: ArgRow = ArgRow {
-    id: "parts",
-    long: Some("parts"),
-    takes: Takes::Parsed("N", ValueParser::Unsigned(1, MOST_PARTS)),
-    is_required: true,
+    name: "parts",
+    form: Form::Option("N"),
     help: help::PARTS,
     long_help: help::LONG_PARTS,
-    ..FLAG
+    rules: &[
+        Rule::Parsed(ValueParser::Unsigned(1, MOST_PARTS)),
+        Rule::Required,
+    ],
 };
 
 /// Where a part begins.
 pub(crate) const PART_FROM: ArgRow = ArgRow {
-    id: "from",
-    long: Some("from"),
-    takes: Takes::Parsed("N", ValueParser::Unsigned(0, GREATEST_FROM)),
+    name: "from",
+    form: Form::Option("N"),
     help: help::PART_FROM,
     long_help: help::LONG_PART_FROM,
-    ..FLAG
+    rules: &[Rule::Parsed(ValueParser::Unsigned(0, GREATEST_FROM))],
 };
 
 /// Where a text in parts begins.
 pub(crate) const WHOLE_FROM: ArgRow = ArgRow {
-    id: "from",
-    long: Some("from"),
-    takes: Takes::Parsed("N", ValueParser::Unsigned(0, u64::MAX)),
-    default: Some("0"),
+    name: "from",
+    form: Form::Option("N"),
     help: help::WHOLE_FROM,
     long_help: help::LONG_WHOLE_FROM,
-    ..FLAG
+    rules: &[
+        Rule::Parsed(ValueParser::Unsigned(0, u64::MAX)),
+        Rule::Default("0"),
+    ],
 };
 
 /// Where a text in parts ends.
 pub(crate) const WHOLE_TO: ArgRow = ArgRow {
-    id: "to",
-    long: Some("to"),
-    takes: Takes::Parsed("N", ValueParser::Unsigned(0, u64::MAX)),
-    is_required: true,
+    name: "to",
+    form: Form::Option("N"),
     help: help::WHOLE_TO,
     long_help: help::LONG_WHOLE_TO,
-    ..FLAG
+    rules: &[
+        Rule::Parsed(ValueParser::Unsigned(0, u64::MAX)),
+        Rule::Required,
+    ],
 };

@@ -9,7 +9,7 @@ use jx_run::Settings;
 use jx_task::ValuesTask;
 
 /// An order that arguments give.
-#[derive(Debug, Drop)]
+#[derive(Drop)]
 pub enum Order<'a> {
     /// A report on what is read.
     Report(Request<'a>),
@@ -32,7 +32,7 @@ pub enum Order<'a> {
 }
 
 /// Work on the parts of a text.
-#[derive(Clone, Copy, Debug, PartialEq, Eq)]
+#[derive(Clone, Copy)]
 pub struct PartsOrder<'a> {
     /// The input that is read.
     pub input: Input<'a>,
@@ -43,7 +43,7 @@ pub struct PartsOrder<'a> {
 }
 
 /// A step from the parts of a text to its verdict.
-#[derive(Clone, Copy, Debug, PartialEq, Eq)]
+#[derive(Clone, Copy)]
 pub enum PartsStep {
     /// A part is read, and its run is written. Where there is a `from`, the part begins at this offset of the text.
     Part { from: Option<usize> },
@@ -54,7 +54,7 @@ pub enum PartsStep {
 }
 
 /// Values whose bytes are written.
-#[derive(Debug, Drop)]
+#[derive(Drop)]
 pub struct ValuesOrder<'a> {
     pub task: ValuesTask,
     /// The input that is read.
@@ -72,7 +72,7 @@ pub struct ValuesOrder<'a> {
 }
 
 /// How the lines of an input are answered one by one.
-#[derive(Clone, Copy, Debug, PartialEq, Eq)]
+#[derive(Clone, Copy)]
 pub struct ByLine<'a> {
     /// Whether empty lines are skipped in silence.
     pub skips_blanks: bool,
@@ -81,7 +81,7 @@ pub struct ByLine<'a> {
 }
 
 /// A table with a row for each line, and a cell for each pointer.
-#[derive(Clone, Copy, Debug, PartialEq, Eq)]
+#[derive(Clone, Copy)]
 pub struct TableOrder<'a> {
     pub form: TableForm,
     /// The text that is written where there is no value, or `null`.
@@ -91,7 +91,7 @@ pub struct TableOrder<'a> {
 }
 
 /// How the texts of a row are separated and escaped.
-#[derive(Clone, Copy, Debug, PartialEq, Eq)]
+#[derive(Clone, Copy)]
 pub enum TableForm {
     /// By tabs.
     Tsv,
@@ -100,7 +100,7 @@ pub enum TableForm {
 }
 
 /// The form of the lines of a container's elements.
-#[derive(Clone, Copy, Debug, PartialEq, Eq)]
+#[derive(Clone, Copy, PartialEq, Eq)]
 pub enum EachForm {
     /// The value of each element or member.
     Values,
@@ -115,7 +115,7 @@ pub enum EachForm {
 }
 
 /// The elements of a container in a text, which are written or counted while it is read.
-#[derive(Clone, Copy, Debug, PartialEq, Eq)]
+#[derive(Clone, Copy)]
 pub struct EachOrder<'a> {
     /// The pointer that leads to the container, as the words have it.
     pub pointer: &'a str,
@@ -134,7 +134,7 @@ pub struct EachOrder<'a> {
 }
 
 /// Lines, each of which is to be a text.
-#[derive(Debug, Drop)]
+#[derive(Drop)]
 pub struct LinesOrder<'a> {
     /// The inputs that are read.
     pub inputs: Inputs<'a>,
@@ -157,14 +157,14 @@ pub struct LinesOrder<'a> {
 }
 
 /// Lines that pass through, beside the report on the others.
-#[derive(Clone, Copy, Debug, PartialEq, Eq)]
+#[derive(Clone, Copy)]
 pub struct PassOrder<'a> {
     /// FILE to which the report is appended. None where it goes to standard error.
     pub report: Option<&'a str>,
 }
 
 /// Elements of text sequences, or texts of streams, which are reported while they are read.
-#[derive(Debug, Drop)]
+#[derive(Drop)]
 pub struct LiveOrder<'a> {
     /// The inputs that are read.
     pub inputs: Inputs<'a>,
@@ -175,7 +175,7 @@ pub struct LiveOrder<'a> {
 }
 
 /// The index of a text, whose bytes are written.
-#[derive(Clone, Copy, Debug, PartialEq, Eq)]
+#[derive(Clone, Copy)]
 pub struct SaveOrder<'a> {
     /// The input that is read.
     pub input: Input<'a>,
@@ -192,7 +192,7 @@ pub struct SaveOrder<'a> {
 }
 
 /// The borders of the parts of a container, by the index of its text.
-#[derive(Clone, Copy, Debug, PartialEq, Eq)]
+#[derive(Clone, Copy)]
 pub struct SplitOrder<'a> {
     /// The pointer that leads to the container, as the words have it.
     pub pointer: &'a str,

@@ -3,7 +3,7 @@ use crate::inputs::Inputs;
 use jx_task::Command;
 
 /// A report that arguments ask for.
-#[derive(Debug, Drop)]
+#[derive(Drop)]
 pub struct Request<'a> {
     pub command: Command,
     /// The inputs that are read.
@@ -19,7 +19,7 @@ pub struct Request<'a> {
 }
 
 /// The format of the answer.
-#[derive(Clone, Copy, Debug, PartialEq, Eq)]
+#[derive(Clone, Copy)]
 pub enum Told {
     /// By the lines of a report.
     Lines,
@@ -34,7 +34,7 @@ pub enum Told {
 }
 
 /// Whether an accepted text is reported.
-#[derive(Clone, Copy, Debug, PartialEq, Eq)]
+#[derive(Clone, Copy)]
 pub enum TellAccepted {
     /// Where there are several inputs.
     Several,
@@ -43,7 +43,7 @@ pub enum TellAccepted {
 }
 
 /// Whether messages to people have colors.
-#[derive(Clone, Copy, Debug, PartialEq, Eq)]
+#[derive(Clone, Copy, Debug)]
 pub enum Color {
     /// Where the output is a terminal.
     Auto,
@@ -52,7 +52,7 @@ pub enum Color {
 }
 
 /// Whether progress is shown on standard error.
-#[derive(Clone, Copy, Debug, PartialEq, Eq)]
+#[derive(Clone, Copy)]
 pub enum ShowProgress {
     /// Where standard error is a terminal.
     Auto,

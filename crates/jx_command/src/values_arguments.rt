@@ -63,11 +63,11 @@ fn table_from<'a>(options: &ArgMatches<'a>) -> Result<Option<TableOrder<'a>>, Ar
 
 /// How the lines of what is read are answered by the options, if they are to be.
 fn by_line_from<'a>(options: &ArgMatches<'a>) -> Result<Option<ByLine<'a>>, ArgFault> {
-    if !options.get_flag("by_line") {
+    if !options.get_flag("lines") {
         return Ok(None);
     }
     Ok(Some(ByLine {
-        skips_blanks: options.get_flag("skip_blank"),
+        skips_blanks: options.get_flag("skip-blank"),
         table: table_from(options)?,
     }))
 }
@@ -97,7 +97,7 @@ pub(crate) fn values_order_from<'a>(
             piece: piece_of(options).unwrap_or(1),
         },
         input: input_from(options),
-        pointers: options.get_str("pointers_file"),
+        pointers: options.get_str("pointers"),
         index: options.get_str("index"),
         is_compact: options.get_flag("compact"),
         is_raw: options.get_flag("raw"),
