@@ -124,8 +124,8 @@ pub(crate) const EACH_WORKERS: ArgRow = ArgRow {
 
 /// One worker saves an index in less processor time, and mostly in less time.
 pub(crate) const SAVE_WORKERS: ArgRow = ArgRow {
-    default: Some("1"),
     long_help: help::SAVE_WORKERS,
+    rules: &[Rule::Default("1")],
     ..WORKERS
 };
 
